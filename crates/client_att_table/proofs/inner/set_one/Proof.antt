@@ -1,0 +1,76 @@
+-- `client_att_table::inner::set_one` meets its contract: what the lookup finds, or nothing. Assumes nothing.
+use mathlib.Core.Path.{sym, _∙_}
+use native.Mathlib.Omega.{arith}
+use borrow.Author.Needs.{needs}
+use Rattle.client_att_table.specs.SetValues.{setOne}
+use Rattle.table_view.proofs.Search.{placed}
+use Rattle.table_view.proofs.Shape.{fits}
+use Rattle.client_att_table.proofs.inner.set_one.Statement.{statement}
+use Rattle.client_att_table.proofs.inner.set_one.Tie as tie
+
+key-at-requires : tie.Need-key-at-requires
+key-at-requires c κs = omega (arith, fits _ (c .before .before .before .pre .0 .0), c .before .before .before .pre .0 .1)
+
+find-requires : tie.Need-find-requires
+find-requires c κs = c .before .before .before .before .pre .1
+
+enum-known-q : tie.Need-enum-known-q
+enum-known-q c = search needs
+
+value-requires : tie.Need-value-requires
+value-requires c κs = (c .before .before .before .before .before .before .before .before .before .pre .1, placed _ _ _ (sym (c .before .before .before .before .find .ensures) ∙ c .before .before .q .given .1) .inside)
+
+put-value-requires : tie.Need-put-value-requires
+put-value-requires c κs = c .before .before .before .before .before .before .before .before .before .before .pre .0
+
+enum-told : tie.Need-enum-told
+enum-told c = search needs
+
+sub-put-value : tie.Need-sub-put-value
+sub-put-value c = search needs
+
+part-put-value-start : tie.Need-part-put-value-start
+part-put-value-start c = search needs
+
+part-put-value-end : tie.Need-part-put-value-end
+part-put-value-end c = search needs
+
+put-value-requires-2 : tie.Need-put-value-requires-2
+put-value-requires-2 c κs = c .before .before .before .before .before .before .before .before .before .pre .0
+
+same-length : tie.Need-same-length
+same-length c = search needs
+
+returns : tie.Need-returns
+unfolding setOne
+returns c =
+    c .before .before .put-value .ensures ∙ rw
+    (c .before .before .before .value .ensures, ← c .before .before .before .before .before .before .before .before .before .key-at .ensures, ← c .before .before .before .before .before .before .before .before .find .ensures, c .before .before .before .before .before .before .q .given .1)
+
+same-length-2 : tie.Need-same-length-2
+same-length-2 c = search needs
+
+returns-2 : tie.Need-returns-2
+unfolding setOne
+returns-2 c =
+    c .before .before .put-value2 .ensures ∙ rw
+    (← c .before .before .before .before .before .before .before .before .key-at .ensures, ← c .before .before .before .before .before .before .before .find .ensures, c .before .before .before .before .before .enum-told .given .1)
+
+pub set-one-spec : {M : Type 1} → statement M
+set-one-spec =
+    tie.close
+    (tie.spec
+    key-at-requires
+    find-requires
+    enum-known-q
+    value-requires
+    put-value-requires
+    enum-told
+    sub-put-value
+    part-put-value-start
+    part-put-value-end
+    put-value-requires-2
+    same-length
+    returns
+    same-length-2
+    returns-2)

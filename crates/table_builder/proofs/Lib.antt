@@ -1,0 +1,4 @@
+pub mod Laws
+pub mod Clear
+pub mod Grown
+pub mod AsList

@@ -1,0 +1,21 @@
+-- `table_builder::entry::space` meets its contract. The definition is opened, and each case is the code's.
+-- Assumes nothing.
+use native.Mathlib.Omega.{arith}
+use borrow.Author.Needs.{needs}
+use Rattle.table_builder.specs.Push.{taken}
+use Rattle.table_builder.proofs.entry.space.Statement.{statement}
+use Rattle.table_builder.proofs.entry.space.Tie as tie
+
+add-result : tie.Need-add-result
+add-result c = search needs
+
+returns : tie.Need-returns
+unfolding taken
+returns c = (rw (c .if1 .taken), omega arith)
+
+returns-2 : tie.Need-returns-2
+unfolding taken
+returns-2 c = (rw (c .if1 .left), omega arith)
+
+pub space-spec : {M : Type 1} → statement M
+space-spec = tie.close (tie.spec add-result returns returns-2)

@@ -1,0 +1,2 @@
+pub mod Push
+pub mod AsList

@@ -1,0 +1,51 @@
+// Numbers and ranges at a place of a slice, for callers that know that they lie inside it.
+ghost use mathlib.Core.Path.{_≡_};
+ghost use Prim.Native.Nat.{_+_, _≤_, _<_};
+ghost use lib.ListN.{length, replicate};
+ghost use lib.Seq.{sets};
+ghost use Rattle.wire.specs.Number.{word, wordBytes};
+
+// A byte as a number of two bytes. A call of it asks nothing, where a cast of an element asks that it fits.
+fn wide(x: u8) -> u16
+    ensures { λ r. ⌜ (r ≡ x) × (r < 256) ⌝ }
+{
+    x as u16
+}
+
+// The number at `at`, low byte first.
+pub fn get(b: &[u8], at: usize) -> u16
+    requires { ⌜ at + 1 < length (now b) ⌝ }
+    ensures { λ r. ⌜ r ≡ word (now (b .entry)) at ⌝ }
+{
+    wide(b[at]) + 256 * wide(b[at + 1])
+}
+
+// Puts v at `at`, low byte first. Every other byte stays.
+pub fn set(b: &mut [u8], at: usize, v: u16)
+    requires { ⌜ at + 1 < length (now b) ⌝ }
+    ensures { λ _. ⌜ now (b .exit) ≡ sets (now (b .entry)) at (wordBytes v) ⌝ }
+{
+    b[at] = (v % 256) as u8;
+    b[at + 1] = (v / 256) as u8;
+}
+
+// Copies all of d into b from `at` on. Every other byte stays.
+pub fn copy(b: &mut [u8], at: usize, d: &[u8])
+    requires { ⌜ at + length (now d) ≤ length (now b) ⌝ }
+    ensures { λ _. ⌜ now (b .exit) ≡ sets (now (b .entry)) at (now (d .entry)) ⌝ }
+{
+    let mut i = 0;
+    while i < d.len() {
+        b[at + i] = d[i];
+        i += 1;
+    }
+}
+
+// Makes the n bytes from `at` on 0. Every other byte stays.
+pub fn zero_at(b: &mut [u8], at: usize, n: usize)
+    requires { ⌜ at + n ≤ length (now b) ⌝ }
+    ensures { λ _. ⌜ now (b .exit) ≡ sets (now (b .entry)) at (replicate n 0) ⌝ }
+{
+    let to = at + n;
+    crate::bytes::zero(&mut b[at..to]);
+}

@@ -1,0 +1,7 @@
+// Bytes as they go over the wire: tests and changes of whole ranges, numbers of two bytes, the writing cursor, UUIDs.
+//
+// What asks something of its caller stands in `inner`; everything else can be called with any slice.
+pub mod bytes;
+pub mod cursor;
+pub mod inner;
+pub mod uuid;

@@ -1,0 +1,20 @@
+-- The table of facts holds: each row computes. Assumes nothing.
+use mathlib.Core.Path.{refl}
+use Rattle.wire.specs.Test.{both}
+use Rattle.wire.specs.First.{first}
+use Rattle.wire.specs.Run.{afterAll}
+use Rattle.wire.specs.Bytes.{zeros}
+use Rattle.wire.specs.Number.{word}
+use Rattle.table_view.specs.Layout.{nextAt, headAt, lenAt, valueAt}
+use Rattle.table_view.specs.Rules.{entryOk, indexOk, valueOk, valuesOk, accepts}
+use Rattle.table_view.specs.Lookup.{placeFrom, placeOf}
+use Rattle.table_view.specs.View.{itemAt, itemsFrom}
+use Rattle.table_view.specs.Read.{readTold, getTold}
+use Rattle.client_att_table.specs.Write.{planAt, withLen, laid, writeTold, afterWrite}
+use Rattle.table_builder.specs.Push.{builder, lastKey, entryFits, taken, flagged, pushPlan, withEntry}
+use Rattle.worked_facts.specs.Facts.{Hold, none, one, FactsHold}
+
+pub facts-hold : FactsHold
+unfolding both first afterAll zeros word nextAt headAt lenAt valueAt entryOk indexOk valueOk valuesOk accepts placeFrom placeOf itemAt itemsFrom readTold getTold planAt withLen laid writeTold afterWrite builder lastKey entryFits taken flagged pushPlan withEntry
+facts-hold =
+    one refl (one refl (one refl (one refl (one refl (one refl (one refl (one refl (one refl (one refl (one refl (one refl none)))))))))))

@@ -1,0 +1,123 @@
+// Runs the worked facts of document 01 on the code and prints what it answers. `specs/Facts.antt` has the starred ones as a proved table.
+mod say;
+
+use say::line;
+use say::say;
+use say::say_outcome;
+use say::say_pushed;
+use say::say_value;
+use table_view::Key;
+
+// T: key 3 fixed 2 and key 5 variable 8.
+fn table_t() -> [u8; 640] {
+    let mut b = table_builder::new();
+    table_builder::push(&mut b, Key(3), 2, false);
+    table_builder::push(&mut b, Key(5), 8, true);
+    let mut t = [0u8; 640];
+    table_builder::build(&b, &mut t);
+    t
+}
+
+// The bytes of a table, what a key of it reads, and its lines.
+fn say_bytes(t: &[u8; 640]) {
+    say_value(t, table_view::raw(t));
+}
+
+fn say_key(t: &[u8; 640], key: Key) {
+    say_value(t, table_view::get(t, key));
+}
+
+fn print(t: &[u8; 640]) {
+    table_printer::print_table(t);
+}
+
+// What a write of d to key 5 of a copy of the table answers, and what 5 reads then.
+fn say_write(t: &[u8; 640], offset: usize, d: &[u8]) {
+    let mut copy = *t;
+    say_outcome(client_att_table::write(&mut copy, Key(5), offset, d));
+    say(b"; 5 reads ");
+    say_key(&copy, Key(5));
+    line();
+}
+
+fn written_facts() {
+    let mut t = table_t();
+    say(b"* T fresh: ");
+    say_bytes(&t);
+    line();
+    client_att_table::write(&mut t, Key(5), 0, b"3E1047");
+    client_att_table::write(&mut t, Key(5), 0, b"3E10");
+    say(b"* 3E1047 then 3E10 written to 5: ");
+    say_bytes(&t);
+    say(b"; 5 reads ");
+    say_key(&t, Key(5));
+    line();
+    say(b"* Then offset 5, nine bytes: ");
+    say_write(&t, 5, b"ABCDEFGHI");
+    say(b"* Offset 4, five bytes: ");
+    say_write(&t, 4, b"ABCDE");
+    say(b"* Offset 4, four bytes: ");
+    say_write(&t, 4, b"ABCD");
+    say(b"* Offset 2, no bytes: ");
+    say_write(&t, 2, b"");
+}
+
+fn saved_facts() {
+    let empty = [0u8; 4];
+    say(b"* Saved 00000000: ");
+    say_outcome(table_view::try_from_raw(&empty));
+    line();
+    let short = [0u8; 3];
+    say(b"* Saved 000000: ");
+    say_outcome(table_view::try_from_raw(&short));
+    line();
+    let no_room = [1u8, 0, 1, 0, 1, 0x80, 0, 0, 0];
+    say(b"* Saved 010001000180000000: ");
+    say_outcome(table_view::try_from_raw(&no_room));
+    line();
+    let loose = [1u8, 0, 3, 0, 1, 0, 2, 0, 0xAA, 0xBB, 0xCC];
+    say(b"* Saved 0100030001000200AABBCC: key 1 is ");
+    say_value(&loose, table_view::get(&loose, Key(1)));
+    line();
+}
+
+// What a push to a new builder answers.
+fn say_push(key: u16, n: u16) {
+    let mut b = table_builder::new();
+    say_pushed(table_builder::push(&mut b, Key(key), n, false));
+    line();
+}
+
+fn push_facts() {
+    say(b"Key 0x7FFF pushed: ");
+    say_push(0x7FFF, 0);
+    say(b"Key 0x8000: ");
+    say_push(0x8000, 0);
+    say(b"Length 512 pushed: ");
+    say_push(1, 512);
+    say(b"Length 513: ");
+    say_push(1, 513);
+}
+
+// The table printer, on T after the second fact and on what it refuses.
+fn printer_facts() {
+    let mut t = table_t();
+    client_att_table::write(&mut t, Key(5), 0, b"3E1047");
+    client_att_table::write(&mut t, Key(5), 0, b"3E10");
+    print(&t);
+    client_att_table::clear(&mut t);
+    print(&t);
+    let short = [0u8; 3];
+    table_printer::print_table(&short);
+    let longest = [0u8; 65536];
+    table_printer::print_table(&longest);
+    let longer = [0u8; 65537];
+    table_printer::print_table(&longer);
+}
+
+fn main() {
+    written_facts();
+    saved_facts();
+    push_facts();
+    printer_facts();
+}
