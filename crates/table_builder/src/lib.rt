@@ -1,5 +1,5 @@
 // The builder of a client table: entries pushed in ascending order of their keys. A builder is held in the 640 bytes of the table to be.
-mod entry;
+pub mod inner;
 
 use table_view::Key;
 use table_view::Outcome;
@@ -27,9 +27,9 @@ pub fn new() -> [u8; 640]
 pub fn push(b: &mut [u8; 640], key: Key, n: u16, variable: bool) -> Pushed
     ensures { λ r. ⌜ (toldPushed r ≡ pushTold (now (b .entry)) (key .0) n variable) × (now (b .exit) ≡ afterPush (now (b .entry)) (key .0) n variable) ⌝ }
 {
-    let plan = entry::judge(b, key, n, variable);
+    let plan = inner::judge(b, key, n, variable);
     if let Pushed::Added = plan {
-        entry::add(b, key, n, variable);
+        inner::add(b, key, n, variable);
     }
     plan
 }
@@ -38,7 +38,7 @@ pub fn push(b: &mut [u8; 640], key: Key, n: u16, variable: bool) -> Pushed
 pub fn build(b: &[u8; 640], table: &mut [u8; 640]) -> Outcome
     ensures { λ r. ⌜ (told r ≡ buildTold (now (b .entry))) × (now (table .exit) ≡ afterBuild (now (b .entry)) (now (table .entry))) ⌝ }
 {
-    if !entry::is_builder(b) {
+    if !inner::is_builder(b) {
         return Outcome::Refused;
     }
     wire::inner::copy(table, 0, b);

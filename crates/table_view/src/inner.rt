@@ -172,7 +172,7 @@ fn value_ok(t: &[u8], p: Place) -> bool
 }
 
 // The values, one by one, of an index that passed.
-fn values_ok(t: &[u8]) -> bool
+pub fn values_ok(t: &[u8]) -> bool
     requires { ⌜ (4 ≤ length (now t)) × (endOf (now t) ≤ length (now t)) ⌝ }
     requires { ⌜ indexOk (now t) (countOf (now t)) 0 0 0 ≡ true ⌝ }
     ensures { λ r. ⌜ r ≡ valuesOk (now (t .entry)) (countOf (now (t .entry))) 0 ⌝ }

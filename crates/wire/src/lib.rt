@@ -5,3 +5,9 @@ pub mod bytes;
 pub mod cursor;
 pub mod inner;
 pub mod uuid;
+
+// What a lookup in a list answers: the first place that fits, or that there is none.
+pub enum Found {
+    At(usize),
+    Nothing,
+}

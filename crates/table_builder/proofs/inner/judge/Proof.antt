@@ -1,4 +1,4 @@
--- `table_builder::entry::judge` meets its contract. A law for each answer, from the tests before it.
+-- `table_builder::inner::judge` meets its contract. A law for each answer, from the tests before it.
 -- Assumes nothing.
 use mathlib.Core.Bool.{true}
 use mathlib.Core.Path.{_≡_, sym, _∙_}
@@ -9,8 +9,8 @@ use Rattle.table_builder.specs.Push.{builder}
 use Rattle.table_builder.proofs.Laws.{bad-builder, too-long, high-key, low-key, no-room, added, is-table}
 use Rattle.table_view.proofs.Shape.{long, fits}
 use denote.Ref.{now}
-use Rattle.table_builder.proofs.entry.judge.Statement.{statement}
-use Rattle.table_builder.proofs.entry.judge.Tie as tie
+use Rattle.table_builder.proofs.inner.judge.Statement.{statement}
+use Rattle.table_builder.proofs.inner.judge.Tie as tie
 
 ok : (c : tie.Else1) → builder (now (c .before .before .before .args .b)) ≡ true
 ok c = sym (c .before .is-builder .ensures) ∙ not-false _ (c .if1 .left)

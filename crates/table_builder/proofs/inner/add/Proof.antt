@@ -1,9 +1,9 @@
--- `table_builder::entry::add` meets its contract. The four stores, in the code's own numbers, are those of `withEntry` (`entry-done`).
+-- `table_builder::inner::add` meets its contract. The four stores, in the code's own numbers, are those of `withEntry` (`entry-done`).
 -- Assumes nothing.
 use borrow.Author.Needs.{needs}
 use Rattle.table_builder.proofs.Laws.{entry-done}
-use Rattle.table_builder.proofs.entry.add.Statement.{statement}
-use Rattle.table_builder.proofs.entry.add.Tie as tie
+use Rattle.table_builder.proofs.inner.add.Statement.{statement}
+use Rattle.table_builder.proofs.inner.add.Tie as tie
 
 count-requires : tie.Need-count-requires
 count-requires c κs = search needs

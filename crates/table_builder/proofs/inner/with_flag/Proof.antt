@@ -1,10 +1,10 @@
--- `table_builder::entry::with_flag` meets its contract. The definition is opened, and each case is the code's.
+-- `table_builder::inner::with_flag` meets its contract. The definition is opened, and each case is the code's.
 -- Assumes nothing.
 use native.Mathlib.Omega.{arith}
 use borrow.Author.Needs.{needs}
 use Rattle.table_builder.specs.Push.{flagged}
-use Rattle.table_builder.proofs.entry.with_flag.Statement.{statement}
-use Rattle.table_builder.proofs.entry.with_flag.Tie as tie
+use Rattle.table_builder.proofs.inner.with_flag.Statement.{statement}
+use Rattle.table_builder.proofs.inner.with_flag.Tie as tie
 
 add-result : tie.Need-add-result
 add-result c = search needs

@@ -1,10 +1,10 @@
--- `table_builder::entry::space` meets its contract. The definition is opened, and each case is the code's.
+-- `table_builder::inner::space` meets its contract. The definition is opened, and each case is the code's.
 -- Assumes nothing.
 use native.Mathlib.Omega.{arith}
 use borrow.Author.Needs.{needs}
 use Rattle.table_builder.specs.Push.{taken}
-use Rattle.table_builder.proofs.entry.space.Statement.{statement}
-use Rattle.table_builder.proofs.entry.space.Tie as tie
+use Rattle.table_builder.proofs.inner.space.Statement.{statement}
+use Rattle.table_builder.proofs.inner.space.Tie as tie
 
 add-result : tie.Need-add-result
 add-result c = search needs

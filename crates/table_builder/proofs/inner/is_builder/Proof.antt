@@ -1,4 +1,4 @@
--- `table_builder::entry::is_builder` meets its contract. On a table the last test decides, and the part that it looks at is all that follows the index (`tail`).
+-- `table_builder::inner::is_builder` meets its contract. On a table the last test decides, and the part that it looks at is all that follows the index (`tail`).
 -- Assumes nothing.
 use mathlib.Core.Bool.{true}
 use mathlib.Core.Path.{_≡_, sym, ap, _∙_}
@@ -10,8 +10,8 @@ use Rattle.wire.specs.Bytes.{zeros}
 use Rattle.table_builder.proofs.Laws.{no-table, by-zeros, tail}
 use Rattle.table_view.proofs.Shape.{long, fits}
 use denote.Ref.{now}
-use Rattle.table_builder.proofs.entry.is_builder.Statement.{statement}
-use Rattle.table_builder.proofs.entry.is_builder.Tie as tie
+use Rattle.table_builder.proofs.inner.is_builder.Statement.{statement}
+use Rattle.table_builder.proofs.inner.is_builder.Tie as tie
 
 ok : (c : tie.Else1) → accepts (now (c .before .before .before .args .b)) ≡ true
 ok c = sym (c .before .is-table .ensures) ∙ not-false _ (c .if1 .left)

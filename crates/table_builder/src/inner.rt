@@ -8,16 +8,16 @@ ghost use Rattle.table_builder.specs.Push.{builder, lastKey, taken, flag
 use crate::Pushed;
 use table_view::Key;
 use table_view::Place;
-use table_view::inner;
+use table_view::inner as view;
 
 // Whether these bytes are a builder's: a table's, with zeros after the index.
 pub fn is_builder(b: &[u8]) -> bool
     ensures { λ r. ⌜ r ≡ builder (now (b .entry)) ⌝ }
 {
-    if !inner::is_table(b) {
+    if !view::is_table(b) {
         return false;
     }
-    let from = inner::values_base(b);
+    let from = view::values_base(b);
     wire::bytes::is_zero(&b[from..])
 }
 
@@ -26,15 +26,15 @@ fn last_key(b: &[u8]) -> Key
     requires { ⌜ (4 ≤ length (now b)) × (baseOf (now b) ≤ length (now b)) ⌝ }
     ensures { λ r. ⌜ r .0 ≡ lastKey (now (b .entry)) ⌝ }
 {
-    let n = inner::count(b);
+    let n = view::count(b);
     if n == 0 {
         return Key(0);
     }
-    inner::key_at(b, Place(n - 1))
+    view::key_at(b, Place(n - 1))
 }
 
 // How many bytes a value takes: a variable one's length takes two.
-fn space(n: u16, variable: bool) -> usize
+pub fn space(n: u16, variable: bool) -> usize
     ensures { λ r. ⌜ (r ≡ taken n variable) × (r ≤ n + 2) ⌝ }
 {
     if variable { n as usize + 2 } else { n as usize }
@@ -64,7 +64,7 @@ pub fn judge(b: &[u8], key: Key, n: u16, variable: bool) -> Pushed
     if key.0 <= last_key(b).0 {
         return Pushed::BadEntry;
     }
-    if 640 < inner::values_end(b) + 4 + space(n, variable) {
+    if 640 < view::values_end(b) + 4 + space(n, variable) {
         return Pushed::NoRoom;
     }
     Pushed::Added
@@ -76,9 +76,9 @@ pub fn add(b: &mut [u8], key: Key, n: u16, variable: bool)
     requires { ⌜ (640 ≤ length (now b)) × (key .0 < 32768) ⌝ }
     ensures { λ _. ⌜ now (b .exit) ≡ withEntry (now (b .entry)) (key .0) n variable ⌝ }
 {
-    let count = inner::count(b);
-    let values = inner::number(b, 2);
-    let at = inner::values_base(b);
+    let count = view::count(b);
+    let values = view::number(b, 2);
+    let at = view::values_base(b);
     let size = space(n, variable);
     let k = with_flag(key, variable);
     wire::inner::set(b, 0, (count + 1) as u16);

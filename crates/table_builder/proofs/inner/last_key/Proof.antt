@@ -1,11 +1,11 @@
--- `table_builder::entry::last_key` meets its contract. By cases: an index with no entry, and one with some.
+-- `table_builder::inner::last_key` meets its contract. By cases: an index with no entry, and one with some.
 -- Assumes nothing.
 use mathlib.Core.Path.{_∙_}
 use native.Mathlib.Omega.{arith}
 use borrow.Author.Needs.{needs}
 use Rattle.table_builder.proofs.Laws.{no-last, last}
-use Rattle.table_builder.proofs.entry.last_key.Statement.{statement}
-use Rattle.table_builder.proofs.entry.last_key.Tie as tie
+use Rattle.table_builder.proofs.inner.last_key.Statement.{statement}
+use Rattle.table_builder.proofs.inner.last_key.Tie as tie
 
 count-requires : tie.Need-count-requires
 count-requires c κs = search needs
