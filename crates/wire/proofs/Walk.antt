@@ -1,5 +1,5 @@
 -- Laws of the plain walk: a turn of a loop that looks for the first element that fits, and what the place found has. Assumes nothing.
-use mathlib.Core.Path.{_≡_, refl, sym, _∙_}
+use mathlib.Core.Path.{_≡_, refl}
 use mathlib.Core.Bool.{Bool, true, false, cond}
 use mathlib.Core.List.{List, [], _∷_}
 use mathlib.Core.Logic.{⊎-elim}
@@ -14,21 +14,21 @@ use Rattle.wire.specs.declared.Found.{Found}
 use Rattle.wire.specs.declared.Found.the-variants.{At, Nothing}
 use Rattle.wire.proofs.Tests.{split}
 
--- a loop at place i: what is left of the walk is the walk
-module _ {A : Type 0} (p : A → Bool) (d : A) (l : List A) (i : ℕ) (all : Found) (inv : placeIn p (drop i l) i ≡ all) where
-  one : i < length l → cond (p (getD l i d)) (At i) (placeIn p (drop (i + 1) l) (i + 1)) ≡ all
+-- the walk at place i: one turn, a hit, a miss, and the end
+module _ {A : Type 0} (p : A → Bool) (d : A) (l : List A) (i : ℕ) where
+  turn : i < length l → placeFrom p l i ≡ cond (p (getD l i d)) (At i) (placeFrom p l (i + 1))
   unfolding placeIn
-  one h = rw add-one (rw (drop-cons l i d h) at inv)
+  turn h = rw (drop-cons l i d h, add-one)
 
-  pub hit : i < length l → p (getD l i d) ≡ true → At i ≡ all
-  hit h t = rw t at (one h)
+  pub hit : i < length l → p (getD l i d) ≡ true → placeFrom p l i ≡ At i
+  hit h t = rw (turn h, t)
 
-  pub miss : i < length l → p (getD l i d) ≡ false → placeIn p (drop (i + 1) l) (i + 1) ≡ all
-  miss h t = rw t at (one h)
+  pub miss : i < length l → p (getD l i d) ≡ false → placeFrom p l i ≡ placeFrom p l (i + 1)
+  miss h t = rw (turn h, t)
 
-  pub over : length l ≤ i → Nothing ≡ all
+  pub none-left : length l ≤ i → placeFrom p l i ≡ Nothing
   unfolding placeIn
-  over h = rw (drop-of-length-le l h) at inv
+  none-left h = rw (drop-of-length-le l h)
 
 -- the place found, from place `from` on: the first that passes
 pub record Placed {A : Type 0} (p : A → Bool) (d : A) (l : List A) (from i : ℕ) : Type 0 where
@@ -71,8 +71,7 @@ module _ {A : Type 0} (p : A → Bool) (d : A) (l : List A) where
       ⊎-elim
       (λ (b : from < length l). walked (length l - from) from i (omega arith) h)
       (λ (b : length l ≤ from).
-      let w : Nothing ≡ At i = over p d l from (At i) h b in
-      let q : _≡_ {A = ℕ} 0 1 = cc in
+      let q : _≡_ {A = ℕ} 0 1 = cc (none-left p d l from b) in
       absurd (omega arith))
       (split from (length l))
 

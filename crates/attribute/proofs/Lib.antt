@@ -1,0 +1,5 @@
+pub mod Reading
+pub mod Entries
+pub mod Shape
+pub mod Places
+pub mod Kept

@@ -1,0 +1,58 @@
+-- `attribute::lookup::find_within` meets its contract. The invariant is residual: what is left of the walk answers as the whole does. A turn, a hit and the end are the walk's laws. Assumes nothing.
+use mathlib.Core.List.{[]}
+use mathlib.Core.Path.{_≡_, refl, sym, _∙_}
+use Prim.Native.Nat.{_-_}
+use native.Mathlib.Omega.{arith}
+use lib.ListN.{length}
+use Rattle.attribute.specs.Lookup.{isWithin}
+use Rattle.wire.specs.Walk.{placeFrom}
+use Rattle.wire.proofs.Walk.{hit, miss, none-left}
+use Rattle.attribute.proofs.lookup.find_within.Statement.{statement}
+use Rattle.attribute.proofs.lookup.find_within.Tie as tie
+
+abbrev Inv-loop : tie.InvT-loop
+Inv-loop list from start end i₀ i = placeFrom (isWithin start end) list i ≡ placeFrom (isWithin start end) list from
+
+abbrev μ-loop : tie.MeasureT-loop
+μ-loop list from start end i₀ i = length list - i
+
+loop-holds : tie.Need-loop-holds Inv-loop μ-loop
+loop-holds c = refl
+
+is-within-requires : tie.Need-is-within-requires Inv-loop μ-loop
+is-within-requires c κs = omega arith
+
+returns : tie.Need-returns Inv-loop μ-loop
+returns c =
+    sym
+    (hit (isWithin _ _) [] (c .before .before .before .before .args .list .now) _ (c .before .before .loop-test .taken) (sym (c .before .is-within .ensures) ∙ c .if1 .taken))
+    ∙ c .before .before .before .loop .inv
+
+add-i : tie.Need-add-i Inv-loop μ-loop
+add-i c = omega arith
+
+loop-less : tie.Need-loop-less Inv-loop μ-loop
+loop-less c = omega arith
+
+loop-again : tie.Need-loop-again Inv-loop μ-loop
+loop-again c =
+    sym
+    (miss (isWithin _ _) [] (c .before .before .before .before .args .list .now) _ (c .before .before .loop-test .taken) (sym (c .before .is-within .ensures) ∙ c .if1 .left))
+    ∙ c .before .before .before .loop .inv
+
+returns-2 : tie.Need-returns-2 Inv-loop μ-loop
+returns-2 c = sym (none-left _ [] (c .before .before .args .list .now) _ (c .loop-test .left)) ∙ c .before .loop .inv
+
+pub find-within-spec : {M : Type 1} → statement M
+find-within-spec =
+    tie.close
+    (tie.spec
+    Inv-loop
+    μ-loop
+    loop-holds
+    is-within-requires
+    returns
+    add-i
+    loop-less
+    loop-again
+    returns-2)

@@ -1,0 +1,4 @@
+pub mod Record
+pub mod Lookup
+pub mod Needs
+pub mod Rules

@@ -1,0 +1,85 @@
+// An entry by its place, for callers that know that there is one.
+ghost use mathlib.Core.Path.{_≡_};
+ghost use mathlib.Core.List.{[]};
+ghost use Prim.Native.Nat.{_+_, _<_, min};
+ghost use lib.ListN.{length, getD, set, drop};
+ghost use Rattle.attribute.specs.Record.{attributeOf, uuidOf, withLength};
+ghost use Rattle.attribute.specs.Lookup.{handleOf, isService, groupEnd};
+use crate::Attribute;
+
+// The record's fields.
+pub fn decode(r: &[u8; 32]) -> Attribute
+    ensures { λ a. ⌜ a ≡ attributeOf (now (r .entry)) ⌝ }
+{
+    let flags = r[10];
+    Attribute {
+        handle: wire::inner::get(r, 0),
+        cap: wire::inner::get(r, 2),
+        start: wire::inner::get(r, 4),
+        len: wire::inner::get(r, 6),
+        reads: r[8],
+        writes: r[9],
+        variable: flags % 2 == 1,
+        client: flags / 2 % 2 == 1,
+    }
+}
+
+fn least(a: usize, b: usize) -> usize
+    ensures { λ r. ⌜ r ≡ min a b ⌝ }
+{
+    if a <= b { a } else { b }
+}
+
+// The record's UUID, of as many bytes as it says and has.
+pub fn uuid(r: &[u8]) -> &[u8]
+    requires { ⌜ length (now r) ≡ 32 ⌝ }
+    ensures { λ u. ⌜ now u ≡ uuidOf (now (r .entry)) ⌝ }
+{
+    let to = least(12 + r[11] as usize, 32);
+    &r[12..to]
+}
+
+// An entry's handle.
+pub fn handle_at(list: &[[u8; 32]], i: usize) -> u16
+    requires { ⌜ i < length (now list) ⌝ }
+    ensures { λ r. ⌜ r ≡ handleOf (getD (now (list .entry)) i []) ⌝ }
+{
+    wire::inner::get(&list[i], 0)
+}
+
+// Sets the present length of the entry at place i. Every other byte of the list stays.
+pub fn set_length(list: &mut [[u8; 32]], i: usize, n: u16)
+    requires { ⌜ i < length (now list) ⌝ }
+    ensures { λ _. ⌜ now (list .exit) ≡ set (now (list .entry)) i (withLength (getD (now (list .entry)) i []) n) ⌝ }
+{
+    wire::inner::set(&mut list[i], 6, n);
+}
+
+// Whether an entry starts a service, primary or secondary.
+fn is_service(list: &[[u8; 32]], i: usize) -> bool
+    requires { ⌜ i < length (now list) ⌝ }
+    ensures { λ r. ⌜ r ≡ isService (getD (now (list .entry)) i []) ⌝ }
+{
+    let u = uuid(&list[i]);
+    if wire::uuid::same_uuid(u, &[0x00, 0x28]) {
+        return true;
+    }
+    wire::uuid::same_uuid(u, &[0x01, 0x28])
+}
+
+// The last handle of the group that the entry at place i begins or belongs to.
+pub fn group_end(list: &[[u8; 32]], i: usize) -> u16
+    requires { ⌜ i < length (now list) ⌝ }
+    ensures { λ r. ⌜ r ≡ groupEnd (handleOf (getD (now (list .entry)) i [])) (drop (i + 1) (now (list .entry))) ⌝ }
+{
+    let mut end = handle_at(list, i);
+    let mut j = i + 1;
+    while j < list.len() {
+        if is_service(list, j) {
+            return end;
+        }
+        end = handle_at(list, j);
+        j += 1;
+    }
+    end
+}
