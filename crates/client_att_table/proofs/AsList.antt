@@ -2,7 +2,7 @@
 use mathlib.Core.Path.{_≡_, refl, sym, ap, _∙_}
 use mathlib.Core.Bool.{Bool, true, false, cond}
 use mathlib.Core.List.{List, [], _∷_}
-use Prim.Native.Nat.{ℕ, _+_, _≤_, _<_}
+use Prim.Native.Nat.{ℕ, _+_, _<_}
 use native.Mathlib.Omega.{arith}
 use lib.ListN.{length}
 use lib.Dec.{ltb}
@@ -10,11 +10,11 @@ use borrow.Author.Tests.{ltb-false}
 use Rattle.wire.specs.Test.{both}
 use Rattle.wire.specs.First.{first, onFirst}
 use Rattle.wire.specs.Run.{afterAll, toldAll}
-use Rattle.table_view.specs.Layout.{countOf, capAt, lenAt, valueAt}
+use Rattle.table_view.specs.Layout.{countOf, capAt, lenAt}
 use Rattle.table_view.specs.Rules.{accepts}
 use Rattle.table_view.specs.Lookup.{placeOf}
 use Rattle.table_view.specs.View.{Item, itemAt, view, isOf}
-use Rattle.table_view.specs.Told.{Told, done, refused, att}
+use Rattle.table_view.specs.Told.{Told, done, att}
 use Rattle.table_view.specs.Read.{told, getTold}
 use Rattle.table_view.specs.declared.Place.{Place}
 use Rattle.table_view.specs.declared.Found.{Found}
@@ -24,14 +24,13 @@ use Rattle.table_view.proofs.Shape.{value-length}
 use Rattle.table_view.proofs.Search.{placed}
 use Rattle.table_view.proofs.Same.{count-same}
 use Rattle.table_view.proofs.Items.{atPlace, first-place, on-place, on-none}
-use Rattle.client_att_table.specs.Write.{laid, planAt, planOf, answer, afterPlan, writeTold, afterWrite}
+use Rattle.client_att_table.specs.Write.{laid, planAt, answer, afterPlan, writeTold, afterWrite}
 use Rattle.client_att_table.specs.SetValues.{setTold, afterSet}
 use Rattle.client_att_table.specs.Clear.{clearTold, afterClear}
-use Rattle.client_att_table.specs.AsList.{itemTold, itemAfter, listSet, Call, write, setValues, clear, get, bytesTold, bytesAfter, listTold, listAfter, Acts, TableIsList}
-use Rattle.client_att_table.specs.declared.Plan.{Plan}
+use Rattle.client_att_table.specs.AsList.{itemTold, itemAfter, listSet, Call, write, setValues, clear, get, bytesTold, bytesAfter, listTold, listAfter, TableIsList}
 use Rattle.client_att_table.specs.declared.Plan.the-variants.{Into, Not}
 use Rattle.client_att_table.proofs.Planning.{GoesIn}
-use Rattle.client_att_table.proofs.Frame.{Kept, kept-itself, kept-index, frame-index, other-item}
+use Rattle.client_att_table.proofs.Frame.{Kept, kept-itself, frame-index, other-item}
 use Rattle.client_att_table.proofs.Laid.{laid-frame}
 use Rattle.client_att_table.proofs.Writing.{write-kept, item-written}
 use Rattle.client_att_table.proofs.Taking.{set-kept, view-set}

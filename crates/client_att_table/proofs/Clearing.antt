@@ -1,7 +1,7 @@
 -- A cleared table: it is kept, and each of its items has taken nothing. Assumes nothing.
 use mathlib.Core.Path.{_≡_, refl, sym, _∙_}
 use mathlib.Core.Bool.{Bool, true, false, cond}
-use mathlib.Core.List.{List, [], _∷_, _++_}
+use mathlib.Core.List.{List, []}
 use Prim.Native.Nat.{ℕ, zero, suc, _+_, _-_, _≤_, _<_}
 use native.Mathlib.Omega.{arith}
 use lib.ListN.{length, getD, take, drop, replicate, length-take, length-drop, length-replicate, getD-replicate}
@@ -18,7 +18,7 @@ use Rattle.table_view.proofs.Same.{SameIndex, count-same, key-same, var-same, o
 use Rattle.client_att_table.specs.SetValues.{fitted}
 use Rattle.client_att_table.specs.Clear.{cleared}
 use Rattle.client_att_table.specs.AsList.{takes, listSet}
-use Rattle.client_att_table.proofs.Frame.{Kept, kept-index}
+use Rattle.client_att_table.proofs.Frame.{Kept}
 
 pub zeroed : (bs : List ℕ) (a n : ℕ) (out : List ℕ) → a ≡ baseOf bs → n ≡ valuesLen bs → out ≡ sets bs a (replicate n 0) → out ≡ cleared bs
 unfolding cleared
@@ -44,7 +44,7 @@ module _ (bs : List ℕ) (ok : accepts bs ≡ true) where
       }
 
   -- a byte among the values
-  clear-byte : (j : ℕ) → baseOf bs ≤ j → j < baseOf bs + valuesLen bs → getD (cleared bs) j 0 ≡ 0
+  pub clear-byte : (j : ℕ) → baseOf bs ≤ j → j < baseOf bs + valuesLen bs → getD (cleared bs) j 0 ≡ 0
   unfolding cleared
   clear-byte j a b = sets.zeros-in (valuesLen bs) bs (baseOf bs) j (fits bs ok) a b
 

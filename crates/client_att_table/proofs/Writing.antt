@@ -1,19 +1,19 @@
 -- A write that goes in: the value that it gives, and that the table is kept. Assumes nothing.
-use mathlib.Core.Path.{_≡_, refl, sym, _∙_}
+use mathlib.Core.Path.{_≡_, refl, _∙_}
 use mathlib.Core.Bool.{Bool, true, false, cond}
-use mathlib.Core.List.{List, [], _++_}
-use Prim.Native.Nat.{ℕ, _+_, _≤_, _<_}
+use mathlib.Core.List.{List, []}
+use Prim.Native.Nat.{ℕ, _+_, _≤_}
 use native.Mathlib.Nat.{le-refl}
 use native.Mathlib.Omega.{arith}
 use lib.ListN.{length, take, drop, length-take, length-drop, drop-of-length-le}
 use lib.Seq.{sets, sets-eq, take-take}
 use borrow.Author.Tests.{le-ltb}
 use Rattle.wire.proofs.Sets.{take-sets}
-use Rattle.table_view.specs.Layout.{countOf, varAt, startAt, capAt, lenAt, valueAt}
+use Rattle.table_view.specs.Layout.{varAt, startAt, capAt, lenAt, valueAt}
 use Rattle.table_view.specs.Rules.{accepts}
 use Rattle.table_view.specs.View.{itemAt}
 use Rattle.table_view.proofs.Cases.{len-fixed}
-use Rattle.table_view.proofs.Shape.{fits, entry-at, room-fits, value-length}
+use Rattle.table_view.proofs.Shape.{fits, room-fits, value-length}
 use Rattle.table_view.proofs.Same.{key-same, var-same, cap-same}
 use Rattle.client_att_table.specs.Write.{laid}
 use Rattle.client_att_table.specs.AsList.{newValue, itemTold, itemAfter}

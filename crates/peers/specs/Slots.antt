@@ -10,7 +10,6 @@ use Rattle.wire.specs.Walk.{placeFrom}
 use Rattle.wire.specs.declared.Found.{Found}
 use Rattle.wire.specs.declared.Found.the-variants.{At, Nothing}
 use Rattle.table_view.specs.Rules.{accepts}
-use Rattle.table_view.specs.Told.{Told, done, refused}
 use Rattle.client_att_table.specs.Clear.{cleared}
 use Rattle.peers.specs.Identity.{sameId, isEmpty}
 use Rattle.peers.specs.declared.Identity.{Identity}

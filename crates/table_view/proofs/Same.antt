@@ -15,7 +15,7 @@ use Rattle.table_view.specs.Rules.{entryOk, indexOk, accepts}
 use Rattle.table_view.specs.View.{itemAt, itemsFrom, view}
 use Rattle.table_view.proofs.Cases.{head-var, len-var, len-fixed, next-inner, next-last}
 use Rattle.table_view.proofs.Reading.{by-values}
-use Rattle.table_view.proofs.Shape.{long, fits, index, entry-at, entry-value, all-values}
+use Rattle.table_view.proofs.Shape.{fits, index, entry-at, entry-value, all-values}
 
 pub record SameIndex (bs out : List ℕ) : Type 0 where
   pub room : endOf bs ≤ length out
@@ -69,12 +69,15 @@ module _ (bs out : List ℕ) (s : SameIndex bs out) where
       let h : i < countOf bs = omega arith in
       rw (key-same i h, off-same i h, values-same, entries-same n (suc i) (keyAt bs i) (offAt bs i) (omega arith))
 
+  pub index-kept : accepts bs ≡ true → indexOk out (countOf out) 0 0 0 ≡ true
+  index-kept ok = rw count-same (entries-same (countOf bs) 0 0 0 (omega arith)) ∙ index bs ok
+
   -- they are a table where each length is within its room
   pub accepted : accepts bs ≡ true → ((j : ℕ) → j < countOf bs → lenAt out j ≤ capAt bs j) → accepts out ≡ true
   accepted ok len =
       let r = s .room in
       let e = end-same in
-      sym (by-values out (omega arith) (omega arith) (rw count-same (entries-same (countOf bs) 0 0 0 (omega arith)) ∙ index bs ok))
+      sym (by-values out (omega arith) (omega arith) (index-kept ok))
       ∙ all-values out (countOf out) 0
       (λ j a b.
       let h : j < countOf bs = omega (arith, count-same) in

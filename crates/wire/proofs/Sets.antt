@@ -1,5 +1,5 @@
 -- What `sets l i vs` (the list l with vs from place i on) holds, and what of it stays. Assumes nothing.
-use mathlib.Core.Path.{_≡_, refl, sym, _∙_}
+use mathlib.Core.Path.{_≡_, refl, sym, ap, _∙_}
 use mathlib.Core.List.{List, [], _∷_, _++_, append-assoc, append-nil}
 use Prim.Native.Nat.{ℕ, zero, suc, _+_, _/_, _%_, _-_, _≤_, _<_}
 use mathlib.Core.Logic.{⊎-elim}
@@ -7,7 +7,6 @@ use native.Mathlib.Nat.{add-zero, add-suc, suc-add, eq-or-lt-of-le}
 use native.Mathlib.Numerals.{add-one}
 use native.Mathlib.Omega.{arith}
 use lib.ListN.{length, getD, set, take, drop, replicate, length-set, length-take, length-drop, length-replicate, drop-of-length-le}
-use borrow.Author.Fill.{fill-more}
 use lib.Seq.{sets, drop-cons, drop-length, getD-set-same, getD-set-other, drop-set-add, drop-set-lt, take-set-lt, ext-getD, getD-take, getD-drop, drop-drop, sets-eq}
 use borrow.Rule.Slice.PartMut.{putMid}
 use Rattle.wire.specs.Number.{word, wordBytes}
@@ -102,12 +101,18 @@ store b d out at i h inv = rw (add-one, add-suc) (rw (drop-cons d i 0 h) at inv)
 pub stored : (b d out : List ℕ) (at i : ℕ) → length d ≤ i → sets b (at + i) (drop i d) ≡ out → b ≡ out
 stored b d out at i h inv = rw (drop-of-length-le d h) at inv
 
--- a turn of a loop that fills with v, and its end
-pub fill : (b d : List ℕ) (i v : ℕ) → i < length d → b ≡ replicate i v ++ drop i d → set b i v ≡ replicate (i + 1) v ++ drop (i + 1) d
-fill b d i v h inv = rw inv (fill-more i v d h)
+-- a turn of a loop that fills a list with v, and its end
+module _ {A : Type 0} where
+  one-filled : (i : ℕ) (v : A) (d : List A) → i < length d → set (replicate i v ++ drop i d) i v ≡ replicate (suc i) v ++ drop (suc i) d
+  one-filled i v [] h = absurd (omega arith)
+  one-filled zero v (x ∷ d) h = refl
+  one-filled (suc i) v (x ∷ d) h = ap (λ (l : List A). v ∷ l) (one-filled i v d (omega arith))
 
-pub filled : (b d : List ℕ) (i v : ℕ) → i ≡ length d → b ≡ replicate i v ++ drop i d → b ≡ replicate (length d) v
-filled b d i v e inv = inv ∙ rw (e, drop-length d) (append-nil _)
+  pub fill : (b d : List A) (i : ℕ) (v : A) → i < length d → b ≡ replicate i v ++ drop i d → set b i v ≡ replicate (i + 1) v ++ drop (i + 1) d
+  fill b d i v h inv = rw (inv, add-one) (one-filled i v d h)
+
+  pub filled : (b d : List A) (i : ℕ) (v : A) → i ≡ length d → b ≡ replicate i v ++ drop i d → b ≡ replicate (length d) v
+  filled b d i v e inv = inv ∙ rw (e, drop-length d) (append-nil _)
 
 -- a number of two bytes is below 65536
 pub word-below : (bs : List ℕ) (i : ℕ) → getD bs i 0 < 256 → getD bs (i + 1) 0 < 256 → word bs i < 65536

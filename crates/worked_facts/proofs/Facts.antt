@@ -12,7 +12,7 @@ use Rattle.table_view.specs.View.{itemAt, itemsFrom}
 use Rattle.table_view.specs.Read.{readTold, getTold}
 use Rattle.client_att_table.specs.Write.{planAt, withLen, laid, writeTold, afterWrite}
 use Rattle.table_builder.specs.Push.{builder, lastKey, entryFits, taken, flagged, pushPlan, withEntry}
-use Rattle.worked_facts.specs.Facts.{Hold, none, one, FactsHold}
+use Rattle.worked_facts.specs.Facts.{none, one, FactsHold}
 
 pub facts-hold : FactsHold
 unfolding both first afterAll zeros word nextAt headAt lenAt valueAt entryOk indexOk valueOk valuesOk accepts placeFrom placeOf itemAt itemsFrom readTold getTold planAt withLen laid writeTold afterWrite builder lastKey entryFits taken flagged pushPlan withEntry

@@ -3,12 +3,12 @@ use Prim.Native.Nat.{ℕ}
 use mathlib.Core.Path.{_≡_}
 use mathlib.Core.Bool.{true, false}
 use mathlib.Core.List.{List, [], _∷_, _++_}
-use lib.ListN.{length, take, drop, replicate}
+use lib.ListN.{take, drop, replicate}
 use Rattle.wire.specs.Run.{afterAll}
 use Rattle.table_view.specs.Told.{Told, done, value, refused, att}
 use Rattle.table_view.specs.Read.{readTold, getTold}
 use Rattle.client_att_table.specs.Write.{writeTold, afterWrite}
-use Rattle.table_builder.specs.AsList.{Push, bytesAfter}
+use Rattle.table_builder.specs.AsList.{bytesAfter}
 
 -- T is built from key 3 fixed 2 and key 5 variable 8
 abbrev T : List ℕ

@@ -1,0 +1,154 @@
+-- `state::inner::slot_ok` meets its contract. A law for each answer, in the order of the tests. Assumes nothing.
+use mathlib.Core.Bool.{true}
+use mathlib.Core.Path.{_≡_, sym, _∙_}
+use native.Mathlib.Omega.{arith}
+use lib.ListN.{take}
+use borrow.Author.Needs.{needs}
+use borrow.Author.Tests.{not-true, not-false}
+use Rattle.table_view.specs.Layout.{baseOf}
+use Rattle.wire.specs.Bytes.{alike}
+use Rattle.state.proofs.Testing.{base-fits, end-fits, bad-head, index-there, end-there, bad-tail, by-lengths, by-clear, head-of, rest-of}
+use Rattle.table_builder.proofs.Laws.{is-table}
+use Rattle.table_view.proofs.Shape.{long}
+use denote.Ref.{now}
+use Rattle.state.proofs.inner.slot_ok.Statement.{statement}
+use Rattle.state.proofs.inner.slot_ok.Tie as tie
+
+head : (c : tie.Else1) → alike (take (baseOf (now (c .before .before .before .before .before .before .before .args .fresh))) (now (c .before .before .before .before .before .before .before .args .t))) (take (baseOf (now (c .before .before .before .before .before .before .before .args .fresh))) (now (c .before .before .before .before .before .before .before .args .fresh))) ≡ true
+head c = sym (head-of _ _ _ _ (c .before .before .before .before .values-base .ensures .0) (c .before .same .ensures)) ∙ not-false _ (c .if1 .left)
+
+values-base-requires : tie.Need-values-base-requires
+values-base-requires c κs = long _ (is-table _ (c .before .before .pre .2))
+
+sub-same : tie.Need-sub-same
+sub-same c = search needs
+
+part-same-start : tie.Need-part-same-start
+part-same-start c = search needs
+
+part-same-end : tie.Need-part-same-end
+part-same-end c =
+    omega
+    (arith, base-fits _ (c .before .before .before .args .t .now) (c .before .before .before .args .s) (c .before .before .before .pre .1) (c .before .before .before .pre .0) (c .before .before .before .pre .2))
+
+sub-same-2 : tie.Need-sub-same-2
+sub-same-2 c = search needs
+
+part-same-start-2 : tie.Need-part-same-start-2
+part-same-start-2 c = search needs
+
+part-same-end-2 : tie.Need-part-same-end-2
+part-same-end-2 c =
+    omega
+    (arith, base-fits _ (c .before .before .before .before .args .t .now) (c .before .before .before .before .args .s) (c .before .before .before .before .pre .1) (c .before .before .before .before .pre .0) (c .before .before .before .before .pre .2))
+
+same-requires : tie.Need-same-requires
+same-requires c κs = search needs
+
+returns : tie.Need-returns
+returns c =
+    bad-head _ _ _ (c .before .before .before .before .before .before .before .pre .1)
+    (c .before .before .before .before .before .before .before .pre .0)
+    (c .before .before .before .before .before .before .before .pre .2)
+    (sym (head-of _ _ _ _ (c .before .before .before .before .values-base .ensures .0) (c .before .same .ensures)) ∙ not-true _ (c .if1 .taken))
+
+is-empty-requires : tie.Need-is-empty-requires
+is-empty-requires c κs = search needs
+
+sub-is-zero : tie.Need-sub-is-zero
+sub-is-zero c =
+    omega
+    (arith, base-fits _ (c .before .before .before .before .before .before .before .before .before .before .args .t .now) (c .before .before .before .before .before .before .before .before .before .before .args .s) (c .before .before .before .before .before .before .before .before .before .before .pre .1) (c .before .before .before .before .before .before .before .before .before .before .pre .0) (c .before .before .before .before .before .before .before .before .before .before .pre .2))
+
+part-is-zero-start : tie.Need-part-is-zero-start
+part-is-zero-start c =
+    omega
+    (arith, base-fits _ (c .before .before .before .before .before .before .before .before .before .before .args .t .now) (c .before .before .before .before .before .before .before .before .before .before .args .s) (c .before .before .before .before .before .before .before .before .before .before .pre .1) (c .before .before .before .before .before .before .before .before .before .before .pre .0) (c .before .before .before .before .before .before .before .before .before .before .pre .2))
+
+part-is-zero-end : tie.Need-part-is-zero-end
+part-is-zero-end c = search needs
+
+is-zero-requires : tie.Need-is-zero-requires
+is-zero-requires c κs = search needs
+
+returns-2 : tie.Need-returns-2
+returns-2 c =
+    rest-of _ _ _ _ (c .before .before .before .before .before .before .before .before .before .values-base .ensures .0)
+    (c .is-zero .ensures) ∙ by-clear _ _ _
+    (c .before .before .before .before .before .before .before .before .before .before .before .before .pre .1)
+    (c .before .before .before .before .before .before .before .before .before .before .before .before .pre .0)
+    (c .before .before .before .before .before .before .before .before .before .before .before .before .pre .2)
+    (head (c .before .before .before .before .before))
+    (sym (c .before .before .before .is-empty .ensures) ∙ c .before .before .if2 .taken)
+
+values-end-requires : tie.Need-values-end-requires
+values-end-requires c κs = long _ (is-table _ (c .before .before .before .before .before .before .before .before .before .before .pre .2))
+
+sub-is-zero-2 : tie.Need-sub-is-zero-2
+sub-is-zero-2 c =
+    omega
+    (arith, end-fits _ (c .before .before .before .before .before .before .before .before .before .before .before .args .t .now) (c .before .before .before .before .before .before .before .before .before .before .before .args .s) (c .before .before .before .before .before .before .before .before .before .before .before .pre .1) (c .before .before .before .before .before .before .before .before .before .before .before .pre .0) (c .before .before .before .before .before .before .before .before .before .before .before .pre .2))
+
+part-is-zero-start-2 : tie.Need-part-is-zero-start-2
+part-is-zero-start-2 c =
+    omega
+    (arith, end-fits _ (c .before .before .before .before .before .before .before .before .before .before .before .args .t .now) (c .before .before .before .before .before .before .before .before .before .before .before .args .s) (c .before .before .before .before .before .before .before .before .before .before .before .pre .1) (c .before .before .before .before .before .before .before .before .before .before .before .pre .0) (c .before .before .before .before .before .before .before .before .before .before .before .pre .2))
+
+part-is-zero-end-2 : tie.Need-part-is-zero-end-2
+part-is-zero-end-2 c = search needs
+
+is-zero-requires-2 : tie.Need-is-zero-requires-2
+is-zero-requires-2 c κs = search needs
+
+returns-3 : tie.Need-returns-3
+returns-3 c =
+    bad-tail _ _ _
+    (c .before .before .before .before .before .before .before .before .before .before .before .before .before .before .pre .1)
+    (c .before .before .before .before .before .before .before .before .before .before .before .before .before .before .pre .0)
+    (c .before .before .before .before .before .before .before .before .before .before .before .before .before .before .pre .2)
+    (head (c .before .before .before .before .before .before .before))
+    (sym (c .before .before .before .before .before .is-empty .ensures) ∙ c .before .before .before .before .if2 .left)
+    (sym (rest-of _ _ _ _ (c .before .before .before .values-end .ensures .0) (c .before .is-zero2 .ensures)) ∙ not-true _ (c .if3 .taken))
+
+values-ok-requires : tie.Need-values-ok-requires
+values-ok-requires c κs =
+    let e = end-there _ _ (c .before .before .before .before .before .before .before .before .before .before .before .before .before .before .args .s) (c .before .before .before .before .before .before .before .before .before .before .before .before .before .before .pre .1) (c .before .before .before .before .before .before .before .before .before .before .before .before .before .before .pre .0) (c .before .before .before .before .before .before .before .before .before .before .before .before .before .before .pre .2) (head (c .before .before .before .before .before .before .before)) in
+    ((omega (arith, c .before .before .before .before .before .before .before .before .before .before .before .before .before .before .pre .0), e), index-there _ _ (c .before .before .before .before .before .before .before .before .before .before .before .before .before .before .args .s) (c .before .before .before .before .before .before .before .before .before .before .before .before .before .before .pre .1) (c .before .before .before .before .before .before .before .before .before .before .before .before .before .before .pre .0) (c .before .before .before .before .before .before .before .before .before .before .before .before .before .before .pre .2) (head (c .before .before .before .before .before .before .before)))
+
+returns-4 : tie.Need-returns-4
+returns-4 c =
+    c .values-ok .ensures ∙ by-lengths _ _ _
+    (c .before .before .before .before .before .before .before .before .before .before .before .before .before .before .before .pre .1)
+    (c .before .before .before .before .before .before .before .before .before .before .before .before .before .before .before .pre .0)
+    (c .before .before .before .before .before .before .before .before .before .before .before .before .before .before .before .pre .2)
+    (head (c .before .before .before .before .before .before .before .before))
+    (sym (c .before .before .before .before .before .before .is-empty .ensures) ∙ c .before .before .before .before .before .if2 .left)
+    (sym (rest-of _ _ _ _ (c .before .before .before .before .values-end .ensures .0) (c .before .before .is-zero2 .ensures)) ∙ not-false _ (c .before .if3 .left))
+
+pub slot-ok-spec : {M : Type 1} → statement M
+slot-ok-spec =
+    tie.close
+    (tie.spec
+    values-base-requires
+    sub-same
+    part-same-start
+    part-same-end
+    sub-same-2
+    part-same-start-2
+    part-same-end-2
+    same-requires
+    returns
+    is-empty-requires
+    sub-is-zero
+    part-is-zero-start
+    part-is-zero-end
+    is-zero-requires
+    returns-2
+    values-end-requires
+    sub-is-zero-2
+    part-is-zero-start-2
+    part-is-zero-end-2
+    is-zero-requires-2
+    returns-3
+    values-ok-requires
+    returns-4)

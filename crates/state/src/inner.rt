@@ -1,0 +1,107 @@
+// The table that a list lays out, and the test of the slots against it.
+ghost use mathlib.Core.Path.{_≡_};
+ghost use mathlib.Core.Bool.{true};
+ghost use Prim.Native.Nat.{_+_, _≤_, _<_};
+ghost use lib.ListN.{length, replicate};
+ghost use Rattle.attribute.specs.Rules.{listOk};
+ghost use Rattle.table_view.specs.Layout.{endOf};
+ghost use Rattle.table_builder.specs.Push.{builder};
+ghost use Rattle.state.specs.Fresh.{spaceOf, entryLaid, tableSize, freshTable};
+ghost use Rattle.state.specs.Valid.{slotOk, slotsOk};
+use attribute::Attribute;
+use peers::Slot;
+use table_view::Key;
+use table_view::inner as view;
+
+// How many bytes of a table an entry takes: those of a client value and its place in the index.
+fn space(a: Attribute) -> usize
+    ensures { λ r. ⌜ (r ≡ spaceOf a) × (r < 65544) ⌝ }
+{
+    if a.client {
+        return 4 + table_builder::inner::space(a.cap, a.variable);
+    }
+    0
+}
+
+// How many bytes the list's table takes.
+pub fn table_size(list: &[[u8; 32]]) -> usize
+    requires { ⌜ length (now list) ≤ 64 ⌝ }
+    ensures { λ r. ⌜ r ≡ tableSize (now (list .entry)) ⌝ }
+{
+    let mut size = 4;
+    let mut i = 0;
+    while i < list.len() {
+        size += space(attribute::inner::decode(&list[i]));
+        i += 1;
+    }
+    size
+}
+
+// Lays out one entry, where it is a client value.
+fn lay_entry(out: &mut [u8], a: Attribute)
+    requires { ⌜ (640 ≤ length (now out)) × (endOf (now out) + spaceOf a ≤ 640) × (a .handle < 32768) ⌝ }
+    ensures { λ _. ⌜ now (out .exit) ≡ entryLaid (now (out .entry)) a ⌝ }
+{
+    if a.client {
+        table_builder::inner::add(out, Key(a.handle), a.cap, a.variable);
+    }
+}
+
+// Lays out the list's table in zeros.
+pub fn lay_out(list: &[[u8; 32]], store: usize, out: &mut [u8; 640])
+    requires { ⌜ (listOk (now list) store ≡ true) × (tableSize (now list) ≤ 640) × (now out ≡ replicate 640 0) ⌝ }
+    ensures { λ _. ⌜ now (out .exit) ≡ freshTable (now (list .entry)) ⌝ }
+{
+    let mut i = 0;
+    while i < list.len() {
+        lay_entry(out, attribute::inner::decode(&list[i]));
+        i += 1;
+    }
+}
+
+// One slot with its table: the fresh table's header and index, lengths within capacity, zeros after the end; clear where the slot is empty.
+fn slot_ok(s: Slot, t: &[u8], fresh: &[u8]) -> bool
+    requires { ⌜ (length (now t) ≡ 640) × (length (now fresh) ≡ 640) × (builder (now fresh) ≡ true) ⌝ }
+    ensures { λ r. ⌜ r ≡ slotOk (now (fresh .entry)) s (now (t .entry)) ⌝ }
+{
+    let base = view::values_base(fresh);
+    if !wire::bytes::same(&t[0..base], &fresh[0..base]) {
+        return false;
+    }
+    let id = s.id;
+    if peers::who::is_empty(id) {
+        return wire::bytes::is_zero(&t[base..]);
+    }
+    let end = view::values_end(fresh);
+    if !wire::bytes::is_zero(&t[end..]) {
+        return false;
+    }
+    view::values_ok(t)
+}
+
+// All slots.
+pub fn slots_ok(row: [Slot; 8], tables: &[[u8; 640]], fresh: &[u8; 640]) -> bool
+    requires { ⌜ (length (now tables) ≡ 8) × (builder (now fresh) ≡ true) ⌝ }
+    ensures { λ r. ⌜ r ≡ slotsOk (now (fresh .entry)) row (now (tables .entry)) ⌝ }
+{
+    let mut i = 0;
+    while i < 8 {
+        let s = row[i];
+        if !slot_ok(s, &tables[i], fresh) {
+            return false;
+        }
+        i += 1;
+    }
+    true
+}
+
+// Gives every slot the same table.
+pub fn fill(tables: &mut [[u8; 640]], t: [u8; 640])
+    ensures { λ _. ⌜ now (tables .exit) ≡ replicate (length (now (tables .entry))) t ⌝ }
+{
+    let mut i = 0;
+    while i < tables.len() {
+        tables[i] = t;
+        i += 1;
+    }
+}
