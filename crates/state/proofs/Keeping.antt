@@ -10,7 +10,7 @@ use lib.Seq.{ext-getD, getD-take, getD-drop}
 use borrow.Author.Tests.{eq-eqb, eqb-true, le-leb, leb-true}
 use Rattle.wire.specs.Bytes.{zeros, alike}
 use Rattle.wire.proofs.Tests.{both-l, both-r, both-true, split}
-use Rattle.wire.proofs.Fold.{alike-eq, alike-self}
+use Rattle.wire.proofs.Fold.{zero-at, zeros-from, from-zeros, later-zeros, alike-eq, alike-self}
 use Rattle.table_view.specs.Layout.{baseOf, endOf}
 use Rattle.table_view.specs.Rules.{accepts}
 use Rattle.table_view.proofs.Shape.{fits}
@@ -19,7 +19,6 @@ use Rattle.client_att_table.specs.Clear.{cleared}
 use Rattle.client_att_table.proofs.Frame.{Kept}
 use Rattle.client_att_table.proofs.Clearing.{clear-kept, clear-byte}
 use Rattle.table_builder.specs.Push.{builder}
-use Rattle.table_builder.proofs.Clear.{zero-at, zeros-by}
 use Rattle.attribute.specs.Rules.{listOk}
 use Rattle.peers.specs.Identity.{isEmpty}
 use Rattle.peers.specs.Slots.{clearAt, noSlot, Tables}
@@ -27,7 +26,7 @@ use Rattle.peers.specs.declared.Slot.{Slot}
 use Rattle.peers.proofs.Changes.{slot-set, slot-cleared, new-slot, clear-table}
 use Rattle.state.specs.Fresh.{freshTable, tableSize}
 use Rattle.state.specs.Valid.{laidOut, slotOk, slotsOk, valid}
-use Rattle.state.proofs.Testing.{same-index, joined, later-zeros}
+use Rattle.state.proofs.Testing.{same-index, joined}
 use Rattle.state.proofs.Answers.{fresh-length, fresh-builder}
 use Rattle.state.proofs.Each.{slots-count, slot-at, slot-changed}
 
@@ -91,13 +90,8 @@ module _ (fresh : List ℕ) (lf : length fresh ≡ 640) (b : builder fresh ≡ t
         let k : j < baseOf fresh = omega arith in
         rw (getD-take (baseOf fresh) (cleared t) j 0 k, getD-take (baseOf fresh) t j 0 k) (kept .index j (omega arith)))
 
-    tail-byte : (j : ℕ) → endOf fresh ≤ j → getD t j 0 ≡ 0
-    tail-byte j h =
-        let e : endOf fresh + (j - endOf fresh) ≡ j = omega arith in
-        rw (← e) (sym (getD-drop (endOf fresh) t (j - endOf fresh) 0) ∙ zero-at (drop (endOf fresh) t) tail-zero (j - endOf fresh))
-
     past-zero : (j : ℕ) → endOf fresh ≤ j → getD (cleared t) j 0 ≡ 0
-    past-zero j h = let e = end-same fresh t index in kept .past j (omega arith) ∙ tail-byte j h
+    past-zero j h = let e = end-same fresh t index in kept .past j (omega arith) ∙ from-zeros t (endOf fresh) tail-zero j h
 
     -- from the index on it is all zero
     rest-zero : (j : ℕ) → baseOf fresh ≤ j → getD (cleared t) j 0 ≡ 0
@@ -113,7 +107,7 @@ module _ (fresh : List ℕ) (lf : length fresh ≡ 640) (b : builder fresh ≡ t
     unfolding laidOut
     clear-laid =
         both-true _ _ (rw head-same head)
-        (both-true _ _ (kept .ok) (zeros-by (drop (endOf fresh) (cleared t)) (λ j. getD-drop (endOf fresh) (cleared t) j 0 ∙ past-zero (endOf fresh + j) (omega arith))))
+        (both-true _ _ (kept .ok) (zeros-from (cleared t) (endOf fresh) past-zero))
 
     -- so it is the fresh table again
     fresh-rest : (j : ℕ) → getD (drop (baseOf fresh) fresh) j 0 ≡ 0

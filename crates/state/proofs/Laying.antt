@@ -5,6 +5,8 @@ use mathlib.Core.List.{List, []}
 use Prim.Native.Nat.{ℕ, _+_, _≤_, _<_}
 use native.Mathlib.Omega.{arith}
 use lib.ListN.{length, getD, drop, replicate}
+use lib.Dec.{leb}
+use borrow.Author.Tests.{le-leb, lt-leb}
 use Rattle.wire.specs.Run.{afterAll}
 use Rattle.wire.specs.Number.{word}
 use Rattle.table_view.specs.Layout.{endOf}
@@ -17,7 +19,7 @@ use Rattle.attribute.specs.Record.{attributeOf}
 use Rattle.attribute.specs.Rules.{listOk}
 use Rattle.attribute.proofs.Shape.{entry, ascends}
 use Rattle.state.specs.Fresh.{pushOf, clientsOf, freshTable, spaceOf, entriesSize, tableSize, entryLaid}
-use Rattle.state.proofs.Sizes.{space-client, space-shared, laid-client, laid-shared, size-turn, client-turn, shared-turn, client-over}
+use Rattle.state.proofs.Sizes.{space-client, space-shared, laid-client, laid-shared, size-turn, size-over, client-turn, shared-turn, client-over}
 
 -- the list's entries up to place i are laid out in out
 pub record Laying (list : List (List ℕ)) (out : List ℕ) (i : ℕ) : Type 0 where
@@ -25,7 +27,8 @@ pub record Laying (list : List (List ℕ)) (out : List ℕ) (i : ℕ) : Type 0 w
   pub long : length out ≡ 640
   pub ok : builder out ≡ true
   pub below : (j : ℕ) → i ≤ j → j < length list → lastKey out < attributeOf (getD list j []) .handle
-  pub room : endOf out + entriesSize (drop i list) ≤ 640
+  pub fits : endOf out ≤ 640
+  pub total : endOf out + entriesSize (drop i list) ≡ tableSize list
   pub rest : afterAll bytesAfter out (clientsOf (drop i list)) ≡ freshTable list
 
 fresh-end : endOf (replicate 640 0) ≡ 4
@@ -37,23 +40,24 @@ unfolding lastKey word
 fresh-last = refl
 
 module _ (list : List (List ℕ)) (store : ℕ) (right : listOk list store ≡ true) where
-  pub none-laid : (out : List ℕ) → out ≡ replicate 640 0 → tableSize list ≤ 640 → Laying list out 0
+  pub none-laid : (out : List ℕ) → out ≡ replicate 640 0 → Laying list out 0
   unfolding freshTable
-  none-laid out e s =
+  none-laid out e =
       rw e (record {
         at = omega arith;
         long = refl;
         ok = fresh-builder;
         below = λ j a h. omega (arith, fresh-last, entry list store right j h .positive);
-        room = omega (arith, fresh-end);
+        fits = omega (arith, fresh-end);
+        total = omega (arith, fresh-end);
         rest = refl;
       })
 
-  module _ (out : List ℕ) (i : ℕ) (w : Laying list out i) (h : i < length list) where
-    -- the entry fits what is left
-    pub entry-room : endOf out + spaceOf (attributeOf (getD list i [])) ≤ 640
-    entry-room = omega (arith, w .room, size-turn list i h)
+  -- an entry that the table has no room for
+  pub no-room : (out : List ℕ) (i : ℕ) → Laying list out i → i < length list → 640 < endOf out + spaceOf (attributeOf (getD list i [])) → false ≡ leb (tableSize list) 640
+  no-room out i w h l = sym (lt-leb (tableSize list) 640 (omega (arith, w .total, size-turn list i h)))
 
+  module _ (out : List ℕ) (i : ℕ) (w : Laying list out i) (h : i < length list) (entry-room : endOf out + spaceOf (attributeOf (getD list i [])) ≤ 640) where
     shared-laid : attributeOf (getD list i []) .client ≡ false → Laying list out (i + 1)
     shared-laid c =
         record {
@@ -61,7 +65,8 @@ module _ (list : List (List ℕ)) (store : ℕ) (right : listOk list store ≡ t
           long = w .long;
           ok = w .ok;
           below = λ j a l. w .below j (omega arith) l;
-          room = omega (arith, w .room, size-turn list i h, space-shared (attributeOf (getD list i [])) c);
+          fits = w .fits;
+          total = omega (arith, w .total, size-turn list i h, space-shared (attributeOf (getD list i [])) c);
           rest = rw (shared-turn list i h c) at (w .rest);
         }
 
@@ -84,7 +89,8 @@ module _ (list : List (List ℕ)) (store : ℕ) (right : listOk list store ≡ t
           long = pushed-length out _ _ _ ∙ w .long;
           ok = pushed-builder out _ _ _ (omega (arith, w .long)) (w .ok);
           below = λ j b l. rw (client-pushed c, last-out out _ _ _ _ a g) (ascends list store right i j (omega arith) l);
-          room = rw (client-pushed c) (omega (arith, w .room, size-turn list i h, space-client (attributeOf (getD list i [])) c, end-out out _ _ _ _ a g));
+          fits = rw (client-pushed c) (omega (arith, entry-room, space-client (attributeOf (getD list i [])) c, end-out out _ _ _ _ a g));
+          total = rw (client-pushed c) (omega (arith, w .total, size-turn list i h, space-client (attributeOf (getD list i [])) c, end-out out _ _ _ _ a g));
           rest = rw (client-turn list i h c) at (w .rest);
         }
 
@@ -94,6 +100,10 @@ module _ (list : List (List ℕ)) (store : ℕ) (right : listOk list store ≡ t
         by : (t : Bool) → attributeOf (getD list i []) .client ≡ t → Laying list next (i + 1)
         by true c = rw (e ∙ laid-client (attributeOf (getD list i [])) out c ∙ sym (client-pushed c)) (client-laid c)
         by false c = rw (e ∙ laid-shared (attributeOf (getD list i [])) out c) (shared-laid c)
+
+  -- all laid out: the table has room, and it is the fresh one
+  pub all-fits : (out : List ℕ) (i : ℕ) → Laying list out i → length list ≤ i → true ≡ leb (tableSize list) 640
+  all-fits out i w h = sym (le-leb (tableSize list) 640 (omega (arith, w .total, w .fits, size-over list i h)))
 
   pub all-laid : (out : List ℕ) (i : ℕ) → Laying list out i → length list ≤ i → out ≡ freshTable list
   unfolding afterAll

@@ -6,19 +6,18 @@ use Prim.Native.Nat.{ℕ, _+_, _-_, _≤_, _<_}
 use native.Mathlib.Numerals.{add-one}
 use native.Mathlib.Omega.{arith}
 use lib.ListN.{length, getD, take, drop, take-append-drop, length-drop, drop-of-length-le}
-use lib.Seq.{getD-take, getD-drop, drop-drop, drop-cons}
+use lib.Seq.{getD-take, drop-cons}
 use Rattle.wire.specs.Test.{both}
 use Rattle.wire.specs.Bytes.{zeros, alike}
 use Rattle.wire.proofs.Tests.{both-r, both-true, both-false-l, both-false-r, same-test}
-use Rattle.wire.proofs.Fold.{zeros-all, alike-eq, alike-self}
+use Rattle.wire.proofs.Fold.{zeros-all, later-zeros, alike-eq, alike-self}
 use Rattle.table_view.specs.Layout.{countOf, baseOf, endOf}
 use Rattle.table_view.specs.Rules.{indexOk, valuesOk}
 use Rattle.table_view.proofs.Reading.{by-values}
 use Rattle.table_view.proofs.Shape.{fits}
 use Rattle.table_view.proofs.Same.{SameIndex, end-same, index-kept}
 use Rattle.table_builder.specs.Push.{builder}
-use Rattle.table_builder.proofs.Laws.{is-table, by-zeros, tail}
-use Rattle.table_builder.proofs.Clear.{zero-at, zeros-by}
+use Rattle.table_builder.proofs.Laws.{is-table, by-zeros}
 use Rattle.peers.specs.Identity.{isEmpty}
 use Rattle.peers.specs.Slots.{noSlot}
 use Rattle.peers.specs.declared.Slot.{Slot}
@@ -37,26 +36,13 @@ both-head : (a : Bool) → both true a ≡ a
 unfolding both
 both-head a = refl
 
--- zeros from a place on are zeros from a later one on
-zeros-drop : (xs : List ℕ) (k : ℕ) → zeros xs ≡ true → zeros (drop k xs) ≡ true
-zeros-drop xs k z = zeros-by (drop k xs) (λ j. getD-drop k xs j 0 ∙ zero-at xs z (k + j))
-
-pub later-zeros : (l : List ℕ) (m n : ℕ) → m ≤ n → zeros (drop m l) ≡ true → zeros (drop n l) ≡ true
-later-zeros l m n h z =
-    let e : m + (n - m) ≡ n = omega arith in
-    let d : drop (n - m) (drop m l) ≡ drop n l = drop-drop (n - m) m l ∙ rw e in
-    rw (← d) (zeros-drop (drop m l) (n - m) z)
-
 -- two runs of zeros of one length are the same
 zeros-same : (a b : List ℕ) → zeros a ≡ true → zeros b ≡ true → length a ≡ length b → a ≡ b
 zeros-same a b p q e = zeros-all a p ∙ rw e (sym (zeros-all b q))
 
--- what the code's two parts are: `&t[0..n]` and `&t[n..]`
+-- what the code's part `&t[0..n]` is
 pub head-of : (fresh t : List ℕ) (n : ℕ) (r : Bool) → n ≡ baseOf fresh → r ≡ alike (take (n - 0) t) (take (n - 0) fresh) → r ≡ alike (take (baseOf fresh) t) (take (baseOf fresh) fresh)
 head-of fresh t n r e h = let z : n - 0 ≡ baseOf fresh = omega arith in h ∙ rw z
-
-pub rest-of : (t : List ℕ) (n m : ℕ) (r : Bool) → n ≡ m → r ≡ zeros (take (length t - n) (drop n t)) → r ≡ zeros (drop m t)
-rest-of t n m r e h = h ∙ rw (tail t n, e)
 
 module _ (fresh t : List ℕ) (s : Slot) (lf : length fresh ≡ 640) (lt : length t ≡ 640) (b : builder fresh ≡ true) where
   pub base-fits : baseOf fresh ≤ 640

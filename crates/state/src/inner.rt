@@ -3,6 +3,7 @@ ghost use mathlib.Core.Path.{_≡_};
 ghost use mathlib.Core.Bool.{true};
 ghost use Prim.Native.Nat.{_+_, _≤_, _<_};
 ghost use lib.ListN.{length, replicate};
+ghost use lib.Dec.{leb};
 ghost use Rattle.attribute.specs.Rules.{listOk};
 ghost use Rattle.table_view.specs.Layout.{endOf};
 ghost use Rattle.table_builder.specs.Push.{builder};
@@ -13,50 +14,34 @@ use peers::Slot;
 use table_view::Key;
 use table_view::inner as view;
 
-// How many bytes of a table an entry takes: those of a client value and its place in the index.
-fn space(a: Attribute) -> usize
-    ensures { λ r. ⌜ (r ≡ spaceOf a) × (r < 65544) ⌝ }
+// Lays out one entry, where it is a client value: false where the table has no room for it, and then no byte changes.
+fn lay_entry(out: &mut [u8], a: Attribute) -> bool
+    requires { ⌜ (640 ≤ length (now out)) × (endOf (now out) ≤ 640) × (a .handle < 32768) ⌝ }
+    ensures { λ r. ⌜ (r ≡ leb (endOf (now (out .entry)) + spaceOf a) 640) × (r ≡ true → now (out .exit) ≡ entryLaid (now (out .entry)) a) ⌝ }
 {
-    if a.client {
-        return 4 + table_builder::inner::space(a.cap, a.variable);
+    if !a.client {
+        return true;
     }
-    0
+    if 640 < view::values_end(out) + 4 + table_builder::inner::space(a.cap, a.variable) {
+        return false;
+    }
+    table_builder::inner::add(out, Key(a.handle), a.cap, a.variable);
+    true
 }
 
-// How many bytes the list's table takes.
-pub fn table_size(list: &[[u8; 32]]) -> usize
-    requires { ⌜ length (now list) ≤ 64 ⌝ }
-    ensures { λ r. ⌜ r ≡ tableSize (now (list .entry)) ⌝ }
-{
-    let mut size = 4;
-    let mut i = 0;
-    while i < list.len() {
-        size += space(attribute::inner::decode(&list[i]));
-        i += 1;
-    }
-    size
-}
-
-// Lays out one entry, where it is a client value.
-fn lay_entry(out: &mut [u8], a: Attribute)
-    requires { ⌜ (640 ≤ length (now out)) × (endOf (now out) + spaceOf a ≤ 640) × (a .handle < 32768) ⌝ }
-    ensures { λ _. ⌜ now (out .exit) ≡ entryLaid (now (out .entry)) a ⌝ }
-{
-    if a.client {
-        table_builder::inner::add(out, Key(a.handle), a.cap, a.variable);
-    }
-}
-
-// Lays out the list's table in zeros.
-pub fn lay_out(list: &[[u8; 32]], store: usize, out: &mut [u8; 640])
-    requires { ⌜ (listOk (now list) store ≡ true) × (tableSize (now list) ≤ 640) × (now out ≡ replicate 640 0) ⌝ }
-    ensures { λ _. ⌜ now (out .exit) ≡ freshTable (now (list .entry)) ⌝ }
+// Lays out the list's table in zeros: false where it would exceed 640 bytes.
+pub fn lay_out(list: &[[u8; 32]], store: usize, out: &mut [u8; 640]) -> bool
+    requires { ⌜ (listOk (now list) store ≡ true) × (now out ≡ replicate 640 0) ⌝ }
+    ensures { λ r. ⌜ (r ≡ leb (tableSize (now (list .entry))) 640) × (r ≡ true → now (out .exit) ≡ freshTable (now (list .entry))) ⌝ }
 {
     let mut i = 0;
     while i < list.len() {
-        lay_entry(out, attribute::inner::decode(&list[i]));
+        if !lay_entry(out, attribute::inner::decode(&list[i])) {
+            return false;
+        }
         i += 1;
     }
+    true
 }
 
 // One slot with its table: the fresh table's header and index, lengths within capacity, zeros after the end; clear where the slot is empty.
@@ -70,10 +55,10 @@ fn slot_ok(s: Slot, t: &[u8], fresh: &[u8]) -> bool
     }
     let id = s.id;
     if peers::who::is_empty(id) {
-        return wire::bytes::is_zero(&t[base..]);
+        return wire::inner::is_zero_from(t, base);
     }
     let end = view::values_end(fresh);
-    if !wire::bytes::is_zero(&t[end..]) {
+    if !wire::inner::is_zero_from(t, end) {
         return false;
     }
     view::values_ok(t)

@@ -52,11 +52,10 @@ pub fn is_valid(list: &[[u8; 32]], store: usize, row: [Slot; 8], tables: &[[u8; 
     if !attribute::rules::is_list(list, store) {
         return false;
     }
-    if 640 < inner::table_size(list) {
+    let mut fresh = [0u8; 640];
+    if !inner::lay_out(list, store, &mut fresh) {
         return false;
     }
-    let mut fresh = [0u8; 640];
-    inner::lay_out(list, store, &mut fresh);
     inner::slots_ok(row, tables, &fresh)
 }
 
@@ -83,14 +82,13 @@ pub fn new(list: &[[u8; 32]], store: usize, tables: &mut [[u8; 640]]) -> Opening
             answer: Opened::BadList,
         };
     }
-    if 640 < inner::table_size(list) {
+    let mut fresh = [0u8; 640];
+    if !inner::lay_out(list, store, &mut fresh) {
         return Opening {
             row,
             answer: Opened::TooLong,
         };
     }
-    let mut fresh = [0u8; 640];
-    inner::lay_out(list, store, &mut fresh);
     inner::fill(tables, fresh);
     Opening {
         row,

@@ -1,35 +1,22 @@
 -- Bytes with zeros after the index: each value that they hold is blank, and within its room. Assumes nothing.
 use mathlib.Core.Path.{_≡_, refl, sym, _∙_}
 use mathlib.Core.Bool.{Bool, true, false, cond}
-use mathlib.Core.List.{List, [], _∷_}
-use Prim.Native.Nat.{ℕ, zero, suc, _+_, _-_, _≤_, _<_}
+use mathlib.Core.List.{List, []}
+use Prim.Native.Nat.{ℕ, _+_, _-_, _≤_, _<_}
 use native.Mathlib.Omega.{arith}
 use lib.ListN.{length, getD, take, drop, replicate, length-take, length-drop, length-replicate, getD-replicate}
 use lib.Seq.{getD-take, getD-drop, ext-getD}
-use borrow.Author.Tests.{eqb-true, eq-eqb}
-use Rattle.wire.specs.Bytes.{zeros}
 use Rattle.wire.specs.Number.{word}
-use Rattle.wire.proofs.Tests.{both-l, both-r, both-true}
+use Rattle.wire.proofs.Tests.{both-r}
 use Rattle.table_view.specs.Layout.{countOf, baseOf, keyAt, varAt, offAt, startAt, capAt, lenAt, valueAt}
 use Rattle.table_view.specs.Rules.{accepts}
+use Rattle.wire.proofs.Fold.{zeros-from, from-zeros}
 use Rattle.table_view.specs.View.{itemAt}
 use Rattle.table_view.proofs.Cases.{len-var, len-fixed}
 use Rattle.table_view.proofs.Shape.{fits, room-fits}
 use Rattle.table_builder.specs.Push.{builder}
 use Rattle.table_builder.specs.AsList.{blank}
 use Rattle.table_builder.proofs.Laws.{by-zeros}
-
--- what `zeros` says byte by byte: past the end `getD` gives 0 too
-pub zero-at : (xs : List ℕ) → zeros xs ≡ true → (j : ℕ) → getD xs j 0 ≡ 0
-unfolding zeros
-zero-at [] h j = refl
-zero-at (x ∷ xs) h zero = eqb-true x 0 (both-l _ _ h)
-zero-at (x ∷ xs) h (suc j) = zero-at xs (both-r _ _ h) j
-
-pub zeros-by : (xs : List ℕ) → ((j : ℕ) → getD xs j 0 ≡ 0) → zeros xs ≡ true
-unfolding zeros
-zeros-by [] f = refl
-zeros-by (x ∷ xs) f = both-true _ _ (eq-eqb x 0 (f 0)) (zeros-by xs (λ j. f (suc j)))
 
 -- every byte after the index is 0
 abbrev pub Clear : List ℕ → Type 0
@@ -39,14 +26,10 @@ module _ (bs : List ℕ) where
   -- a builder's bytes are so, and a table whose bytes are so is a builder's
   pub is-clear : builder bs ≡ true → Clear bs
   unfolding builder
-  is-clear ok j h =
-      let e : baseOf bs + (j - baseOf bs) ≡ j = omega arith in
-      rw (getD-drop (baseOf bs) bs (j - baseOf bs) 0, e) at (zero-at (drop (baseOf bs) bs) (both-r _ _ ok) (j - baseOf bs))
+  is-clear ok = from-zeros bs (baseOf bs) (both-r _ _ ok)
 
   pub is-builder : accepts bs ≡ true → Clear bs → builder bs ≡ true
-  is-builder ok z =
-      sym (by-zeros bs ok)
-      ∙ zeros-by (drop (baseOf bs) bs) (λ j. getD-drop (baseOf bs) bs j 0 ∙ z (baseOf bs + j) (omega arith))
+  is-builder ok z = sym (by-zeros bs ok) ∙ zeros-from bs (baseOf bs) z
 
 -- what stands there: numbers, parts, and the values
 module _ (bs : List ℕ) (z : Clear bs) where

@@ -4,8 +4,8 @@ use mathlib.Core.Bool.{Bool, true, false, cond}
 use mathlib.Core.List.{List, append-nil}
 use Prim.Native.Nat.{ℕ, _+_, _-_, _≤_, _<_}
 use native.Mathlib.Omega.{arith}
-use lib.ListN.{length, take, drop, length-drop, drop-of-length-le}
-use lib.Seq.{sets, sets-eq, take-all}
+use lib.ListN.{length, drop, drop-of-length-le}
+use lib.Seq.{sets, sets-eq}
 use lib.Dec.{leb}
 use borrow.Author.Tests.{lt-ltb, le-ltb, le-leb, lt-leb, eq-eqb, ne-eqb, ltb-true, leb-true}
 use Rattle.wire.specs.Test.{both}
@@ -40,10 +40,6 @@ module _ (bs : List ℕ) where
   pub last : (countOf bs ≡ 0 → ⊥) → keyAt bs (countOf bs - 1) ≡ lastKey bs
   unfolding lastKey
   last h = rw (ne-eqb (countOf bs) 0 h)
-
--- `&b[a..]` is the rest
-pub tail : (b : List ℕ) (a : ℕ) → take (length b - a) (drop a b) ≡ drop a b
-tail b a = take-all (length b - a) (drop a b) (simp length-drop (omega arith))
 
 -- the answers
 module _ (bs : List ℕ) (k n : ℕ) (var : Bool) where

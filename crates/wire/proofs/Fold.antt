@@ -1,18 +1,19 @@
 -- The tests of `specs/Bytes.antt`: what a fold by `|` comes to, a turn of such a loop and its end, and what the tests say. Assumes nothing.
-use Prim.Native.Nat.{ℕ, zero, suc, _+_, _≤_, _<_}
+use Prim.Native.Nat.{ℕ, zero, suc, _+_, _-_, _≤_, _<_}
 use native.Mathlib.Numerals.{add-one}
 use native.Mathlib.Omega.{arith}
 use mathlib.Core.Path.{_≡_, refl, sym, ap, _∙_}
 use mathlib.Core.Bool.{Bool, true, false}
 use mathlib.Core.List.{List, [], _∷_}
+use mathlib.Core.Logic.{⊎-elim}
 use lib.Bits.{bitOr, bitXor, or-add-and, xor-add-and, xor-self, and-le-l, and-le-r}
-use lib.ListN.{length, getD, drop, replicate, drop-of-length-le}
-use lib.Seq.{drop-cons}
+use lib.ListN.{length, getD, take, drop, replicate, drop-of-length-le}
+use lib.Seq.{drop-cons, getD-take, getD-drop}
 use lib.Dec.{eqb}
 use borrow.Author.Tests.{eqb-true, eqb-false, eq-eqb, ne-eqb}
 use Rattle.wire.specs.Test.{both}
 use Rattle.wire.specs.Bytes.{zeros, alike}
-use Rattle.wire.proofs.Tests.{both-l, both-r, both-true, both-assoc}
+use Rattle.wire.proofs.Tests.{both-l, both-r, both-true, both-assoc, same-test, split}
 
 -- a fold is 0 where each part is
 none : (a b : ℕ) (s t : Bool) → eqb a 0 ≡ s → eqb b 0 ≡ t → eqb (bitOr a b) 0 ≡ both s t
@@ -68,6 +69,62 @@ pub all-zeros : (n : ℕ) → zeros (replicate n 0) ≡ true
 unfolding zeros
 all-zeros zero = refl
 all-zeros (suc n) = both-true _ _ (eq-eqb 0 0 refl) (all-zeros n)
+
+-- the same byte by byte: past the end `getD` gives 0 too
+pub zero-at : (xs : List ℕ) → zeros xs ≡ true → (j : ℕ) → getD xs j 0 ≡ 0
+unfolding zeros
+zero-at [] h j = refl
+zero-at (x ∷ xs) h zero = eqb-true x 0 (both-l _ _ h)
+zero-at (x ∷ xs) h (suc j) = zero-at xs (both-r _ _ h) j
+
+zeros-by : (xs : List ℕ) → ((j : ℕ) → getD xs j 0 ≡ 0) → zeros xs ≡ true
+unfolding zeros
+zeros-by [] f = refl
+zeros-by (x ∷ xs) f = both-true _ _ (eq-eqb x 0 (f 0)) (zeros-by xs (λ j. f (suc j)))
+
+-- zeros from a place on
+module _ (l : List ℕ) (n : ℕ) where
+  pub zeros-from : ((j : ℕ) → n ≤ j → getD l j 0 ≡ 0) → zeros (drop n l) ≡ true
+  zeros-from f = zeros-by (drop n l) (λ j. getD-drop n l j 0 ∙ f (n + j) (omega arith))
+
+  pub from-zeros : zeros (drop n l) ≡ true → (j : ℕ) → n ≤ j → getD l j 0 ≡ 0
+  from-zeros z j h =
+      let e : n + (j - n) ≡ j = omega arith in
+      rw (← e) (sym (getD-drop n l (j - n) 0) ∙ zero-at (drop n l) z (j - n))
+
+  pub later-zeros : (m : ℕ) → n ≤ m → zeros (drop n l) ≡ true → zeros (drop m l) ≡ true
+  later-zeros m h z = zeros-by (drop m l) (λ j. getD-drop m l j 0 ∙ from-zeros z (m + j) (omega arith))
+
+-- zeros from n on, in two parts that overlap: the next k bytes, and those from a place among them on
+pub covered : (l : List ℕ) (n k m : ℕ) → m ≤ n + k → zeros (take k (drop n l)) ≡ true → zeros (drop m l) ≡ true → zeros (drop n l) ≡ true
+covered l n k m h a b =
+    zeros-from l n
+    (λ j g.
+    ⊎-elim
+    (λ (q : j < n + k).
+    let e : n + (j - n) ≡ j = omega arith in
+    rw (← e) (sym (getD-drop n l (j - n) 0) ∙ sym (getD-take k (drop n l) (j - n) 0 (omega arith)) ∙ zero-at (take k (drop n l)) a (j - n)))
+    (λ (q : n + k ≤ j). from-zeros l m b j (omega arith))
+    (split j (n + k)))
+
+pub zeros-take : (xs : List ℕ) (k : ℕ) → zeros xs ≡ true → zeros (take k xs) ≡ true
+unfolding zeros
+zeros-take [] zero h = refl
+zeros-take [] (suc k) h = refl
+zeros-take (x ∷ xs) zero h = refl
+zeros-take (x ∷ xs) (suc k) h = both-true _ _ (both-l _ _ h) (zeros-take xs k (both-r _ _ h))
+
+-- `is_zero_from`: the first part decides, or the second one does
+module _ (l : List ℕ) (n m : ℕ) where
+  pub bad-part : zeros (take (m - n) (drop n l)) ≡ false → false ≡ zeros (drop n l)
+  bad-part h = by (zeros (drop n l)) refl
+    where
+      by : (t : Bool) → zeros (drop n l) ≡ t → false ≡ zeros (drop n l)
+      by true z = sym h ∙ zeros-take (drop n l) (m - n) z ∙ sym z
+      by false z = sym z
+
+  pub by-rest : (r : ℕ) → n ≤ r → r ≤ m → n ≤ m → zeros (take (m - n) (drop n l)) ≡ true → zeros (drop r l) ≡ zeros (drop n l)
+  by-rest r a b c h = same-test _ _ (λ z. covered l n (m - n) r (omega arith) h z) (λ z. later-zeros l n r a z)
 
 -- what `alike` says
 pub alike-eq : (xs ys : List ℕ) → alike xs ys ≡ true → xs ≡ ys

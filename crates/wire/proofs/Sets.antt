@@ -7,7 +7,7 @@ use native.Mathlib.Nat.{add-zero, add-suc, suc-add, eq-or-lt-of-le}
 use native.Mathlib.Numerals.{add-one}
 use native.Mathlib.Omega.{arith}
 use lib.ListN.{length, getD, set, take, drop, replicate, length-set, length-take, length-drop, length-replicate, drop-of-length-le}
-use lib.Seq.{sets, drop-cons, drop-length, getD-set-same, getD-set-other, drop-set-add, drop-set-lt, take-set-lt, ext-getD, getD-take, getD-drop, drop-drop, sets-eq}
+use lib.Seq.{sets, drop-cons, drop-length, getD-set-same, getD-set-other, drop-set-add, drop-set-lt, take-set-lt, ext-getD, getD-take, getD-drop, drop-drop, sets-eq, take-all}
 use borrow.Rule.Slice.PartMut.{putMid}
 use Rattle.wire.specs.Number.{word, wordBytes}
 
@@ -118,3 +118,7 @@ module _ {A : Type 0} where
 pub word-below : (bs : List ℕ) (i : ℕ) → getD bs i 0 < 256 → getD bs (i + 1) 0 < 256 → word bs i < 65536
 unfolding word
 word-below bs i a b = omega arith
+
+-- `&b[a..]` is the rest
+pub tail : (b : List ℕ) (a : ℕ) → take (length b - a) (drop a b) ≡ drop a b
+tail b a = take-all (length b - a) (drop a b) (simp length-drop (omega arith))

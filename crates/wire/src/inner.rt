@@ -1,9 +1,12 @@
 // Numbers and ranges at a place of a slice, for callers that know that they lie inside it.
 ghost use mathlib.Core.Path.{_≡_};
 ghost use Prim.Native.Nat.{_+_, _≤_, _<_};
-ghost use lib.ListN.{length, replicate};
+ghost use lib.ListN.{length, drop, replicate};
 ghost use lib.Seq.{sets};
+ghost use Rattle.wire.specs.Bytes.{zeros};
 ghost use Rattle.wire.specs.Number.{word, wordBytes};
+use crate::bytes::is_zero;
+use crate::bytes::zero;
 
 // A byte as a number of two bytes. A call of it asks nothing, where a cast of an element asks that it fits.
 fn wide(x: u8) -> u16
@@ -47,5 +50,23 @@ pub fn zero_at(b: &mut [u8], at: usize, n: usize)
     ensures { λ _. ⌜ now (b .exit) ≡ sets (now (b .entry)) at (replicate n 0) ⌝ }
 {
     let to = at + n;
-    crate::bytes::zero(&mut b[at..to]);
+    zero(&mut b[at..to]);
+}
+
+// Whether every byte from `from` on is 0. A long part is tested in two that overlap, 32 bytes and then as many as make whole turns
+// of the loop: what would be left over costs more than it holds.
+pub fn is_zero_from(s: &[u8], from: usize) -> bool
+    requires { ⌜ from ≤ length (now s) ⌝ }
+    ensures { λ r. ⌜ r ≡ zeros (drop from (now (s .entry))) ⌝ }
+{
+    let n = s.len() - from;
+    if n < 32 {
+        return is_zero(&s[from..]);
+    }
+    let to = from + 32;
+    if !is_zero(&s[from..to]) {
+        return false;
+    }
+    let rest = from + n % 32;
+    is_zero(&s[rest..])
 }

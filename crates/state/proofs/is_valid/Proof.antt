@@ -1,11 +1,9 @@
 -- `state::is_valid` meets its contract. A law for each answer; what is laid out is the fresh table. Assumes nothing.
 use mathlib.Core.Bool.{true}
 use mathlib.Core.Path.{_≡_, refl, sym, _∙_}
-use native.Mathlib.Omega.{arith}
 use borrow.Author.Needs.{needs}
-use borrow.Author.Tests.{not-true, not-false}
+use borrow.Author.Tests.{not-true, not-false, leb-true, leb-false}
 use Rattle.attribute.specs.Rules.{listOk}
-use Rattle.attribute.proofs.Shape.{count}
 use Rattle.state.proofs.Answers.{fresh-builder, other-count, bad-list, too-long, by-slots}
 use denote.Ref.{now}
 use Rattle.state.proofs.is_valid.Statement.{statement}
@@ -23,24 +21,19 @@ is-list-requires c κs = search needs
 returns-2 : tie.Need-returns-2
 returns-2 c = bad-list _ _ _ _ (sym (c .before .is-list .ensures) ∙ not-true _ (c .if2 .taken))
 
-table-size-requires : tie.Need-table-size-requires
-table-size-requires c κs = count _ _ (right c)
+lay-out-requires : tie.Need-lay-out-requires
+lay-out-requires c κs = (right (c .before), refl)
 
 returns-3 : tie.Need-returns-3
-returns-3 c = too-long _ _ _ _ (omega (arith, c .before .table-size .ensures))
-
-lay-out-requires : tie.Need-lay-out-requires
-lay-out-requires c κs = (right (c .before .before .before), omega (arith, c .before .before .table-size .ensures), refl)
+returns-3 c = too-long _ _ _ _ (leb-false _ 640 (sym (c .before .lay-out .ensures .0) ∙ not-true _ (c .if3 .taken)))
 
 slots-ok-requires : tie.Need-slots-ok-requires
-slots-ok-requires c κs = (c .before .before .before .before .before .before .before .if1 .left, rw (c .before .lay-out .ensures) (fresh-builder _))
+slots-ok-requires c κs = (c .before .before .before .before .before .before .if1 .left, rw (c .before .before .lay-out .ensures .1 (not-false _ (c .before .if3 .left))) (fresh-builder _))
 
 returns-4 : tie.Need-returns-4
 returns-4 c =
-    c .slots-ok .ensures ∙ by-slots _ _ _ _ _ (c .before .before .lay-out .ensures)
-    (c .before .before .before .before .before .before .before .before .if1 .left)
-    (right (c .before .before .before .before .before .before))
-    (omega (arith, c .before .before .before .before .before .table-size .ensures))
+    let y = not-false _ (c .before .before .if3 .left) in
+    c .slots-ok .ensures ∙ by-slots _ _ _ _ _ (c .before .before .before .lay-out .ensures .1 y) (c .before .before .before .before .before .before .before .if1 .left) (right (c .before .before .before .before .before)) (leb-true _ 640 (sym (c .before .before .before .lay-out .ensures .0) ∙ y))
 
 pub is-valid-spec : {M : Type 1} → statement M
 is-valid-spec =
@@ -49,8 +42,7 @@ is-valid-spec =
     returns
     is-list-requires
     returns-2
-    table-size-requires
-    returns-3
     lay-out-requires
+    returns-3
     slots-ok-requires
     returns-4)

@@ -1,11 +1,9 @@
 -- `state::new` meets its contract. A law for each answer; what is laid out is the fresh table. Assumes nothing.
 use mathlib.Core.Bool.{true}
 use mathlib.Core.Path.{_≡_, refl, sym, _∙_}
-use native.Mathlib.Omega.{arith}
 use borrow.Author.Needs.{needs}
-use borrow.Author.Tests.{not-true, not-false}
+use borrow.Author.Tests.{not-true, not-false, leb-true, leb-false}
 use Rattle.attribute.specs.Rules.{listOk}
-use Rattle.attribute.proofs.Shape.{count}
 use Rattle.state.proofs.Answers.{new-other-count, new-bad-list, new-too-long, new-done}
 use denote.Ref.{now}
 use Rattle.state.proofs.new.Statement.{statement}
@@ -27,16 +25,13 @@ returns-2 c =
     let w = new-bad-list _ _ _ (sym (c .before .is-list .ensures) ∙ not-true _ (c .if2 .taken)) in
     (w .0, refl, w .1)
 
-table-size-requires : tie.Need-table-size-requires
-table-size-requires c κs = count _ _ (right c)
+lay-out-requires : tie.Need-lay-out-requires
+lay-out-requires c κs = (right (c .before), refl)
 
 returns-3 : tie.Need-returns-3
 returns-3 c =
-    let w = new-too-long _ _ _ (c .before .before .before .before .if1 .left) (right (c .before .before)) (omega (arith, c .before .table-size .ensures)) in
+    let w = new-too-long _ _ _ (c .before .before .before .before .before .if1 .left) (right (c .before .before .before)) (leb-false _ 640 (sym (c .before .lay-out .ensures .0) ∙ not-true _ (c .if3 .taken))) in
     (w .0, refl, w .1)
-
-lay-out-requires : tie.Need-lay-out-requires
-lay-out-requires c κs = (right (c .before .before .before), omega (arith, c .before .before .table-size .ensures), refl)
 
 fill-requires : tie.Need-fill-requires
 fill-requires c κs = search needs
@@ -46,7 +41,8 @@ same-length c = search needs
 
 returns-4 : tie.Need-returns-4
 returns-4 c =
-    let w = new-done _ _ _ _ _ (c .before .before .before .lay-out .ensures) (c .before .before .before .before .before .before .before .before .before .if1 .left) (right (c .before .before .before .before .before .before .before)) (omega (arith, c .before .before .before .before .before .before .table-size .ensures)) (c .before .fill .ensures) in
+    let y = not-false _ (c .before .before .before .if3 .left) in
+    let w = new-done _ _ _ _ _ (c .before .before .before .before .lay-out .ensures .1 y) (c .before .before .before .before .before .before .before .before .if1 .left) (right (c .before .before .before .before .before .before)) (leb-true _ 640 (sym (c .before .before .before .before .lay-out .ensures .0) ∙ y)) (c .before .fill .ensures) in
     (w .0, refl, w .1)
 
 pub new-spec : {M : Type 1} → statement M
@@ -56,9 +52,8 @@ new-spec =
     returns
     is-list-requires
     returns-2
-    table-size-requires
-    returns-3
     lay-out-requires
+    returns-3
     fill-requires
     same-length
     returns-4)

@@ -1,26 +1,60 @@
--- `state::inner::lay_entry` meets its contract: a client value is one entry more. Assumes nothing.
-use mathlib.Core.Path.{sym, _∙_}
+-- `state::inner::lay_entry` meets its contract: a shared value, a client value without room, or one entry more. Assumes nothing.
+use mathlib.Core.Bool.{true, false}
+use mathlib.Core.Path.{_≡_, sym, _∙_}
+use Prim.Native.Nat.{_+_}
 use native.Mathlib.Omega.{arith}
 use borrow.Author.Needs.{needs}
-use Rattle.state.proofs.Sizes.{space-client, laid-client, laid-shared}
+use borrow.Author.Tests.{not-true, not-false, le-leb, lt-leb}
+use Rattle.state.specs.Fresh.{spaceOf}
+use Rattle.table_view.specs.Layout.{endOf}
+use Rattle.state.proofs.Sizes.{space-client, space-shared, laid-client, laid-shared}
+use denote.Ref.{now}
 use Rattle.state.proofs.inner.lay_entry.Statement.{statement}
 use Rattle.state.proofs.inner.lay_entry.Tie as tie
 
-add-requires : tie.Need-add-requires
-add-requires c κs =
-    omega
-    (arith, c .before .before .before .pre .0, c .before .before .before .pre .1, c .before .before .before .pre .2, space-client (c .before .before .before .args .a) (c .before .if1 .taken))
+returns : tie.Need-returns
+returns c = (sym (le-leb (endOf (now (c .before .before .before .args .out)) + spaceOf (c .before .before .before .args .a)) 640 (omega (arith, c .before .before .before .pre .1, space-shared (c .before .before .before .args .a) (not-true _ (c .if1 .taken))))), λ t. sym (laid-shared (c .before .before .before .args .a) _ (not-true _ (c .if1 .taken))))
+
+values-end-requires : tie.Need-values-end-requires
+values-end-requires c κs = search needs
+
+add-if2 : tie.Need-add-if2
+add-if2 c = search needs
+
+space-requires : tie.Need-space-requires
+space-requires c κs = search needs
+
+add-if2-2 : tie.Need-add-if2-2
+add-if2-2 c = search needs
 
 same-length : tie.Need-same-length
 same-length c = search needs
 
-returns : tie.Need-returns
-returns c =
-    c .before .before .add .ensures ∙ sym
-    (laid-client (c .before .before .before .before .before .before .args .a) _ (c .before .before .before .before .if1 .taken))
-
 returns-2 : tie.Need-returns-2
-returns-2 c = sym (laid-shared (c .before .before .args .a) _ (c .if1 .left))
+returns-2 c = (sym (lt-leb (endOf (now (c .before .before .before .before .before .before .before .args .out)) + spaceOf (c .before .before .before .before .before .before .before .args .a)) 640 (omega (arith, c .before .before .values-end .ensures, c .before .space .ensures, space-client (c .before .before .before .before .before .before .before .args .a) (not-false _ (c .before .before .before .before .if1 .left))))), λ (t : false ≡ true). cc)
+
+add-requires : tie.Need-add-requires
+add-requires c κs =
+    omega
+    (arith, c .before .before .before .before .before .before .before .before .pre .0, c .before .before .before .before .before .before .before .before .pre .1, c .before .before .before .before .before .before .before .before .pre .2, c .before .before .before .values-end .ensures, c .before .before .space .ensures)
+
+same-length-2 : tie.Need-same-length-2
+same-length-2 c = search needs
+
+returns-3 : tie.Need-returns-3
+returns-3 c = (sym (le-leb (endOf (now (c .before .before .before .before .before .before .before .before .before .before .before .args .out)) + spaceOf (c .before .before .before .before .before .before .before .before .before .before .before .args .a)) 640 (omega (arith, c .before .before .before .before .before .before .values-end .ensures, c .before .before .before .before .before .space .ensures, space-client (c .before .before .before .before .before .before .before .before .before .before .before .args .a) (not-false _ (c .before .before .before .before .before .before .before .before .if1 .left))))), λ t. c .before .before .add .ensures ∙ sym (laid-client (c .before .before .before .before .before .before .before .before .before .before .before .args .a) _ (not-false _ (c .before .before .before .before .before .before .before .before .if1 .left))))
 
 pub lay-entry-spec : {M : Type 1} → statement M
-lay-entry-spec = tie.close (tie.spec add-requires same-length returns returns-2)
+lay-entry-spec =
+    tie.close
+    (tie.spec
+    returns
+    values-end-requires
+    add-if2
+    space-requires
+    add-if2-2
+    same-length
+    returns-2
+    add-requires
+    same-length-2
+    returns-3)

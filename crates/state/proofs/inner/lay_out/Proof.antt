@@ -1,10 +1,12 @@
 -- `state::inner::lay_out` meets its contract. The invariant: the entries so far are laid out, and pushing those that are left gives the fresh table. Assumes nothing.
-use mathlib.Core.Path.{_∙_}
+use mathlib.Core.Bool.{true, false}
+use mathlib.Core.Path.{_≡_, sym, _∙_}
 use Prim.Native.Nat.{_-_}
 use native.Mathlib.Omega.{arith}
 use lib.ListN.{length}
+use borrow.Author.Tests.{not-true, not-false, leb-true, leb-false}
 use Rattle.attribute.proofs.Shape.{entry}
-use Rattle.state.proofs.Laying.{Laying, none-laid, entry-room, one-laid, all-laid}
+use Rattle.state.proofs.Laying.{Laying, none-laid, no-room, one-laid, all-fits, all-laid}
 use Rattle.state.proofs.inner.lay_out.Statement.{statement}
 use Rattle.state.proofs.inner.lay_out.Tie as tie
 
@@ -15,7 +17,7 @@ abbrev μ-loop : tie.MeasureT-loop
 μ-loop list store out₀ i₀ out i = length list - i
 
 loop-holds : tie.Need-loop-holds Inv-loop μ-loop
-loop-holds c = none-laid _ _ (c .pre .0) _ (c .pre .2) (c .pre .1)
+loop-holds c = none-laid _ _ (c .pre .0) _ (c .pre .1)
 
 mul-decode : tie.Need-mul-decode Inv-loop μ-loop
 mul-decode c = omega arith
@@ -29,9 +31,13 @@ decode-requires c κs = omega arith
 lay-entry-requires : tie.Need-lay-entry-requires Inv-loop μ-loop
 lay-entry-requires c κs =
     let w = c .before .before .before .before .loop .inv in
-    let h = c .before .before .before .loop-test .taken in
-    let e = entry (c .before .before .before .before .before .args .list .now) _ (c .before .before .before .before .before .pre .0) _ h in
-    rw (c .decode .ensures) (omega (arith, w .long), entry-room (c .before .before .before .before .before .args .list .now) _ (c .before .before .before .before .before .pre .0) _ _ w h, omega (arith, e .low))
+    let e = entry (c .before .before .before .before .before .args .list .now) _ (c .before .before .before .before .before .pre .0) _ (c .before .before .before .loop-test .taken) in
+    rw (c .decode .ensures) (omega (arith, w .long), w .fits, omega (arith, e .low))
+
+returns : tie.Need-returns Inv-loop μ-loop
+returns c =
+    let f = leb-false _ 640 (sym (c .before .lay-entry .ensures .0) ∙ not-true _ (c .if1 .taken)) in
+    (no-room (c .before .before .before .before .before .before .before .args .list .now) _ (c .before .before .before .before .before .before .before .pre .0) _ _ (c .before .before .before .before .before .before .loop .inv) (c .before .before .before .before .before .loop-test .taken) (rw (← c .before .before .decode .ensures) f), λ (t : false ≡ true). cc)
 
 add-i : tie.Need-add-i Inv-loop μ-loop
 add-i c = omega arith
@@ -41,13 +47,12 @@ loop-less c = omega arith
 
 loop-again : tie.Need-loop-again Inv-loop μ-loop
 loop-again c =
-    one-laid (c .before .before .before .before .before .before .args .list .now) _
-    (c .before .before .before .before .before .before .pre .0) _ _
-    (c .before .before .before .before .before .loop .inv) (c .before .before .before .before .loop-test .taken) _
-    (c .lay-entry .ensures ∙ rw (c .before .decode .ensures))
+    let y = not-false _ (c .if1 .left) in
+    let f = leb-true _ 640 (sym (c .before .lay-entry .ensures .0) ∙ y) in
+    one-laid (c .before .before .before .before .before .before .before .args .list .now) _ (c .before .before .before .before .before .before .before .pre .0) _ _ (c .before .before .before .before .before .before .loop .inv) (c .before .before .before .before .before .loop-test .taken) (rw (← c .before .before .decode .ensures) f) _ (c .before .lay-entry .ensures .1 y ∙ rw (c .before .before .decode .ensures))
 
-returns : tie.Need-returns Inv-loop μ-loop
-returns c = all-laid (c .before .before .args .list .now) _ (c .before .before .pre .0) _ _ (c .before .loop .inv) (c .loop-test .left)
+returns-2 : tie.Need-returns-2 Inv-loop μ-loop
+returns-2 c = (all-fits (c .before .before .args .list .now) _ (c .before .before .pre .0) _ _ (c .before .loop .inv) (c .loop-test .left), λ t. all-laid (c .before .before .args .list .now) _ (c .before .before .pre .0) _ _ (c .before .loop .inv) (c .loop-test .left))
 
 pub lay-out-spec : {M : Type 1} → statement M
 lay-out-spec =
@@ -60,7 +65,8 @@ lay-out-spec =
     shared-slice-element-decode
     decode-requires
     lay-entry-requires
+    returns
     add-i
     loop-less
     loop-again
-    returns)
+    returns-2)

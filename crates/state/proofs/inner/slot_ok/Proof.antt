@@ -7,7 +7,7 @@ use borrow.Author.Needs.{needs}
 use borrow.Author.Tests.{not-true, not-false}
 use Rattle.table_view.specs.Layout.{baseOf}
 use Rattle.wire.specs.Bytes.{alike}
-use Rattle.state.proofs.Testing.{base-fits, end-fits, bad-head, index-there, end-there, bad-tail, by-lengths, by-clear, head-of, rest-of}
+use Rattle.state.proofs.Testing.{head-of, base-fits, end-fits, bad-head, index-there, end-there, bad-tail, by-lengths, by-clear}
 use Rattle.table_builder.proofs.Laws.{is-table}
 use Rattle.table_view.proofs.Shape.{long}
 use denote.Ref.{now}
@@ -55,75 +55,49 @@ returns c =
 is-empty-requires : tie.Need-is-empty-requires
 is-empty-requires c κs = search needs
 
-sub-is-zero : tie.Need-sub-is-zero
-sub-is-zero c =
+is-zero-from-requires : tie.Need-is-zero-from-requires
+is-zero-from-requires c κs =
     omega
     (arith, base-fits _ (c .before .before .before .before .before .before .before .before .before .before .args .t .now) (c .before .before .before .before .before .before .before .before .before .before .args .s) (c .before .before .before .before .before .before .before .before .before .before .pre .1) (c .before .before .before .before .before .before .before .before .before .before .pre .0) (c .before .before .before .before .before .before .before .before .before .before .pre .2))
-
-part-is-zero-start : tie.Need-part-is-zero-start
-part-is-zero-start c =
-    omega
-    (arith, base-fits _ (c .before .before .before .before .before .before .before .before .before .before .args .t .now) (c .before .before .before .before .before .before .before .before .before .before .args .s) (c .before .before .before .before .before .before .before .before .before .before .pre .1) (c .before .before .before .before .before .before .before .before .before .before .pre .0) (c .before .before .before .before .before .before .before .before .before .before .pre .2))
-
-part-is-zero-end : tie.Need-part-is-zero-end
-part-is-zero-end c = search needs
-
-is-zero-requires : tie.Need-is-zero-requires
-is-zero-requires c κs = search needs
 
 returns-2 : tie.Need-returns-2
 returns-2 c =
-    rest-of _ _ _ _ (c .before .before .before .before .before .before .before .before .before .values-base .ensures .0)
-    (c .is-zero .ensures) ∙ by-clear _ _ _
-    (c .before .before .before .before .before .before .before .before .before .before .before .before .pre .1)
-    (c .before .before .before .before .before .before .before .before .before .before .before .before .pre .0)
-    (c .before .before .before .before .before .before .before .before .before .before .before .before .pre .2)
-    (head (c .before .before .before .before .before))
-    (sym (c .before .before .before .is-empty .ensures) ∙ c .before .before .if2 .taken)
+    c .is-zero-from .ensures ∙ rw
+    (c .before .before .before .before .before .before .before .before .values-base .ensures .0)
+    (by-clear _ _ _ (c .before .before .before .before .before .before .before .before .before .before .before .pre .1) (c .before .before .before .before .before .before .before .before .before .before .before .pre .0) (c .before .before .before .before .before .before .before .before .before .before .before .pre .2) (head (c .before .before .before .before)) (sym (c .before .before .is-empty .ensures) ∙ c .before .if2 .taken))
 
 values-end-requires : tie.Need-values-end-requires
 values-end-requires c κs = long _ (is-table _ (c .before .before .before .before .before .before .before .before .before .before .pre .2))
 
-sub-is-zero-2 : tie.Need-sub-is-zero-2
-sub-is-zero-2 c =
+is-zero-from-requires-2 : tie.Need-is-zero-from-requires-2
+is-zero-from-requires-2 c κs =
     omega
     (arith, end-fits _ (c .before .before .before .before .before .before .before .before .before .before .before .args .t .now) (c .before .before .before .before .before .before .before .before .before .before .before .args .s) (c .before .before .before .before .before .before .before .before .before .before .before .pre .1) (c .before .before .before .before .before .before .before .before .before .before .before .pre .0) (c .before .before .before .before .before .before .before .before .before .before .before .pre .2))
-
-part-is-zero-start-2 : tie.Need-part-is-zero-start-2
-part-is-zero-start-2 c =
-    omega
-    (arith, end-fits _ (c .before .before .before .before .before .before .before .before .before .before .before .args .t .now) (c .before .before .before .before .before .before .before .before .before .before .before .args .s) (c .before .before .before .before .before .before .before .before .before .before .before .pre .1) (c .before .before .before .before .before .before .before .before .before .before .before .pre .0) (c .before .before .before .before .before .before .before .before .before .before .before .pre .2))
-
-part-is-zero-end-2 : tie.Need-part-is-zero-end-2
-part-is-zero-end-2 c = search needs
-
-is-zero-requires-2 : tie.Need-is-zero-requires-2
-is-zero-requires-2 c κs = search needs
 
 returns-3 : tie.Need-returns-3
 returns-3 c =
     bad-tail _ _ _
+    (c .before .before .before .before .before .before .before .before .before .before .before .before .before .pre .1)
+    (c .before .before .before .before .before .before .before .before .before .before .before .before .before .pre .0)
+    (c .before .before .before .before .before .before .before .before .before .before .before .before .before .pre .2)
+    (head (c .before .before .before .before .before .before))
+    (sym (c .before .before .before .before .is-empty .ensures) ∙ c .before .before .before .if2 .left)
+    (rw (← c .before .before .values-end .ensures .0) (sym (c .before .is-zero-from2 .ensures) ∙ not-true _ (c .if3 .taken)))
+
+values-ok-requires : tie.Need-values-ok-requires
+values-ok-requires c κs =
+    let e = end-there _ _ (c .before .before .before .before .before .before .before .before .before .before .before .before .before .args .s) (c .before .before .before .before .before .before .before .before .before .before .before .before .before .pre .1) (c .before .before .before .before .before .before .before .before .before .before .before .before .before .pre .0) (c .before .before .before .before .before .before .before .before .before .before .before .before .before .pre .2) (head (c .before .before .before .before .before .before)) in
+    ((omega (arith, c .before .before .before .before .before .before .before .before .before .before .before .before .before .pre .0), e), index-there _ _ (c .before .before .before .before .before .before .before .before .before .before .before .before .before .args .s) (c .before .before .before .before .before .before .before .before .before .before .before .before .before .pre .1) (c .before .before .before .before .before .before .before .before .before .before .before .before .before .pre .0) (c .before .before .before .before .before .before .before .before .before .before .before .before .before .pre .2) (head (c .before .before .before .before .before .before)))
+
+returns-4 : tie.Need-returns-4
+returns-4 c =
+    c .values-ok .ensures ∙ by-lengths _ _ _
     (c .before .before .before .before .before .before .before .before .before .before .before .before .before .before .pre .1)
     (c .before .before .before .before .before .before .before .before .before .before .before .before .before .before .pre .0)
     (c .before .before .before .before .before .before .before .before .before .before .before .before .before .before .pre .2)
     (head (c .before .before .before .before .before .before .before))
     (sym (c .before .before .before .before .before .is-empty .ensures) ∙ c .before .before .before .before .if2 .left)
-    (sym (rest-of _ _ _ _ (c .before .before .before .values-end .ensures .0) (c .before .is-zero2 .ensures)) ∙ not-true _ (c .if3 .taken))
-
-values-ok-requires : tie.Need-values-ok-requires
-values-ok-requires c κs =
-    let e = end-there _ _ (c .before .before .before .before .before .before .before .before .before .before .before .before .before .before .args .s) (c .before .before .before .before .before .before .before .before .before .before .before .before .before .before .pre .1) (c .before .before .before .before .before .before .before .before .before .before .before .before .before .before .pre .0) (c .before .before .before .before .before .before .before .before .before .before .before .before .before .before .pre .2) (head (c .before .before .before .before .before .before .before)) in
-    ((omega (arith, c .before .before .before .before .before .before .before .before .before .before .before .before .before .before .pre .0), e), index-there _ _ (c .before .before .before .before .before .before .before .before .before .before .before .before .before .before .args .s) (c .before .before .before .before .before .before .before .before .before .before .before .before .before .before .pre .1) (c .before .before .before .before .before .before .before .before .before .before .before .before .before .before .pre .0) (c .before .before .before .before .before .before .before .before .before .before .before .before .before .before .pre .2) (head (c .before .before .before .before .before .before .before)))
-
-returns-4 : tie.Need-returns-4
-returns-4 c =
-    c .values-ok .ensures ∙ by-lengths _ _ _
-    (c .before .before .before .before .before .before .before .before .before .before .before .before .before .before .before .pre .1)
-    (c .before .before .before .before .before .before .before .before .before .before .before .before .before .before .before .pre .0)
-    (c .before .before .before .before .before .before .before .before .before .before .before .before .before .before .before .pre .2)
-    (head (c .before .before .before .before .before .before .before .before))
-    (sym (c .before .before .before .before .before .before .is-empty .ensures) ∙ c .before .before .before .before .before .if2 .left)
-    (sym (rest-of _ _ _ _ (c .before .before .before .before .values-end .ensures .0) (c .before .before .is-zero2 .ensures)) ∙ not-false _ (c .before .if3 .left))
+    (rw (← c .before .before .before .values-end .ensures .0) (sym (c .before .before .is-zero-from2 .ensures) ∙ not-false _ (c .before .if3 .left)))
 
 pub slot-ok-spec : {M : Type 1} → statement M
 slot-ok-spec =
@@ -139,16 +113,10 @@ slot-ok-spec =
     same-requires
     returns
     is-empty-requires
-    sub-is-zero
-    part-is-zero-start
-    part-is-zero-end
-    is-zero-requires
+    is-zero-from-requires
     returns-2
     values-end-requires
-    sub-is-zero-2
-    part-is-zero-start-2
-    part-is-zero-end-2
-    is-zero-requires-2
+    is-zero-from-requires-2
     returns-3
     values-ok-requires
     returns-4)

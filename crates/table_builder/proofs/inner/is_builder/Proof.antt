@@ -7,8 +7,9 @@ use borrow.Author.Needs.{needs}
 use borrow.Author.Tests.{not-true, not-false}
 use Rattle.table_view.specs.Rules.{accepts}
 use Rattle.wire.specs.Bytes.{zeros}
-use Rattle.table_builder.proofs.Laws.{no-table, by-zeros, tail}
+use Rattle.table_builder.proofs.Laws.{no-table, by-zeros}
 use Rattle.table_view.proofs.Shape.{long, fits}
+use Rattle.wire.proofs.Sets.{tail}
 use denote.Ref.{now}
 use Rattle.table_builder.proofs.inner.is_builder.Statement.{statement}
 use Rattle.table_builder.proofs.inner.is_builder.Tie as tie
