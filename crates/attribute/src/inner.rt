@@ -1,11 +1,12 @@
 // An entry by its place, for callers that know that there is one.
 ghost use mathlib.Core.Path.{_≡_};
 ghost use mathlib.Core.List.{[]};
-ghost use Prim.Native.Nat.{_+_, _<_, min};
+ghost use Prim.Native.Nat.{_+_, _<_};
 ghost use lib.ListN.{length, getD, set, drop};
 ghost use Rattle.attribute.specs.Record.{attributeOf, uuidOf, withLength};
 ghost use Rattle.attribute.specs.Lookup.{handleOf, isService, groupEnd};
 use crate::Attribute;
+use wire::least;
 
 // The record's fields.
 pub fn decode(r: &[u8; 32]) -> Attribute
@@ -22,12 +23,6 @@ pub fn decode(r: &[u8; 32]) -> Attribute
         variable: flags % 2 == 1,
         client: flags / 2 % 2 == 1,
     }
-}
-
-fn least(a: usize, b: usize) -> usize
-    ensures { λ r. ⌜ r ≡ min a b ⌝ }
-{
-    if a <= b { a } else { b }
 }
 
 // The record's UUID, of as many bytes as it says and has.

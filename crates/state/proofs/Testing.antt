@@ -40,9 +40,9 @@ both-head a = refl
 zeros-same : (a b : List ℕ) → zeros a ≡ true → zeros b ≡ true → length a ≡ length b → a ≡ b
 zeros-same a b p q e = zeros-all a p ∙ rw e (sym (zeros-all b q))
 
--- what the code's part `&t[0..n]` is
-pub head-of : (fresh t : List ℕ) (n : ℕ) (r : Bool) → n ≡ baseOf fresh → r ≡ alike (take (n - 0) t) (take (n - 0) fresh) → r ≡ alike (take (baseOf fresh) t) (take (baseOf fresh) fresh)
-head-of fresh t n r e h = let z : n - 0 ≡ baseOf fresh = omega arith in h ∙ rw z
+-- the code's base is the fresh table's
+pub head-of : (fresh t : List ℕ) (n : ℕ) (r : Bool) → n ≡ baseOf fresh → r ≡ alike (take n t) (take n fresh) → r ≡ alike (take (baseOf fresh) t) (take (baseOf fresh) fresh)
+head-of fresh t n r e h = h ∙ rw e
 
 module _ (fresh t : List ℕ) (s : Slot) (lf : length fresh ≡ 640) (lt : length t ≡ 640) (b : builder fresh ≡ true) where
   pub base-fits : baseOf fresh ≤ 640

@@ -50,7 +50,7 @@ fn slot_ok(s: Slot, t: &[u8], fresh: &[u8]) -> bool
     ensures { λ r. ⌜ r ≡ slotOk (now (fresh .entry)) s (now (t .entry)) ⌝ }
 {
     let base = view::values_base(fresh);
-    if !wire::bytes::same(&t[0..base], &fresh[0..base]) {
+    if !wire::inner::same_front(t, fresh, base) {
         return false;
     }
     let id = s.id;

@@ -2,21 +2,16 @@
 use libc::STDOUT_FILENO;
 use table_view::Place;
 use table_view::inner;
+use wire::least;
 ghost use mathlib.Core.Path.{_≡_};
 ghost use mathlib.Core.Bool.{true};
-ghost use Prim.Native.Nat.{_≤_, _<_, min};
+ghost use Prim.Native.Nat.{_≤_, _<_};
 ghost use lib.ListN.{length};
 ghost use Rattle.table_view.specs.Layout.{countOf};
 ghost use Rattle.table_view.specs.Rules.{accepts};
 
 fn print(s: &[u8]) {
     io::write_all(STDOUT_FILENO, s);
-}
-
-fn least(a: usize, b: usize) -> usize
-    ensures { λ r. ⌜ r ≡ min a b ⌝ }
-{
-    if a <= b { a } else { b }
 }
 
 // A few bytes as hex pairs.

@@ -1,11 +1,12 @@
 // Numbers and ranges at a place of a slice, for callers that know that they lie inside it.
 ghost use mathlib.Core.Path.{_≡_};
 ghost use Prim.Native.Nat.{_+_, _≤_, _<_};
-ghost use lib.ListN.{length, drop, replicate};
+ghost use lib.ListN.{length, take, drop, replicate};
 ghost use lib.Seq.{sets};
-ghost use Rattle.wire.specs.Bytes.{zeros};
+ghost use Rattle.wire.specs.Bytes.{zeros, alike};
 ghost use Rattle.wire.specs.Number.{word, wordBytes};
 use crate::bytes::is_zero;
+use crate::bytes::same;
 use crate::bytes::zero;
 
 // A byte as a number of two bytes. A call of it asks nothing, where a cast of an element asks that it fits.
@@ -69,4 +70,24 @@ pub fn is_zero_from(s: &[u8], from: usize) -> bool
     }
     let rest = from + n % 32;
     is_zero(&s[rest..])
+}
+
+// Whether the first n bytes of two slices are the same. From 16 to 32 they are compared in two parts of 16 that overlap, for the
+// same reason.
+pub fn same_front(a: &[u8], b: &[u8], n: usize) -> bool
+    requires { ⌜ (n ≤ length (now a)) × (n ≤ length (now b)) ⌝ }
+    ensures { λ r. ⌜ r ≡ alike (take n (now (a .entry))) (take n (now (b .entry))) ⌝ }
+{
+    if n < 16 {
+        return same(&a[0..n], &b[0..n]);
+    }
+    if 32 < n {
+        return same(&a[0..n], &b[0..n]);
+    }
+    if !same(&a[0..16], &b[0..16]) {
+        return false;
+    }
+    let from = n - 16;
+    let to = from + 16;
+    same(&a[from..to], &b[from..to])
 }

@@ -14,43 +14,23 @@ use denote.Ref.{now}
 use Rattle.state.proofs.inner.slot_ok.Statement.{statement}
 use Rattle.state.proofs.inner.slot_ok.Tie as tie
 
-head : (c : tie.Else1) → alike (take (baseOf (now (c .before .before .before .before .before .before .before .args .fresh))) (now (c .before .before .before .before .before .before .before .args .t))) (take (baseOf (now (c .before .before .before .before .before .before .before .args .fresh))) (now (c .before .before .before .before .before .before .before .args .fresh))) ≡ true
-head c = sym (head-of _ _ _ _ (c .before .before .before .before .values-base .ensures .0) (c .before .same .ensures)) ∙ not-false _ (c .if1 .left)
+head : (c : tie.Else1) → alike (take (baseOf (now (c .before .before .before .before .before .args .fresh))) (now (c .before .before .before .before .before .args .t))) (take (baseOf (now (c .before .before .before .before .before .args .fresh))) (now (c .before .before .before .before .before .args .fresh))) ≡ true
+head c = sym (head-of _ _ _ _ (c .before .before .values-base .ensures .0) (c .before .same-front .ensures)) ∙ not-false _ (c .if1 .left)
 
 values-base-requires : tie.Need-values-base-requires
 values-base-requires c κs = long _ (is-table _ (c .before .before .pre .2))
 
-sub-same : tie.Need-sub-same
-sub-same c = search needs
-
-part-same-start : tie.Need-part-same-start
-part-same-start c = search needs
-
-part-same-end : tie.Need-part-same-end
-part-same-end c =
-    omega
-    (arith, base-fits _ (c .before .before .before .args .t .now) (c .before .before .before .args .s) (c .before .before .before .pre .1) (c .before .before .before .pre .0) (c .before .before .before .pre .2))
-
-sub-same-2 : tie.Need-sub-same-2
-sub-same-2 c = search needs
-
-part-same-start-2 : tie.Need-part-same-start-2
-part-same-start-2 c = search needs
-
-part-same-end-2 : tie.Need-part-same-end-2
-part-same-end-2 c =
-    omega
-    (arith, base-fits _ (c .before .before .before .before .args .t .now) (c .before .before .before .before .args .s) (c .before .before .before .before .pre .1) (c .before .before .before .before .pre .0) (c .before .before .before .before .pre .2))
-
-same-requires : tie.Need-same-requires
-same-requires c κs = search needs
+same-front-requires : tie.Need-same-front-requires
+same-front-requires c κs =
+    let f = base-fits _ (c .before .before .before .args .t .now) (c .before .before .before .args .s) (c .before .before .before .pre .1) (c .before .before .before .pre .0) (c .before .before .before .pre .2) in
+    (omega (arith, f), omega (arith, f))
 
 returns : tie.Need-returns
 returns c =
-    bad-head _ _ _ (c .before .before .before .before .before .before .before .pre .1)
-    (c .before .before .before .before .before .before .before .pre .0)
-    (c .before .before .before .before .before .before .before .pre .2)
-    (sym (head-of _ _ _ _ (c .before .before .before .before .values-base .ensures .0) (c .before .same .ensures)) ∙ not-true _ (c .if1 .taken))
+    bad-head _ _ _ (c .before .before .before .before .before .pre .1)
+    (c .before .before .before .before .before .pre .0)
+    (c .before .before .before .before .before .pre .2)
+    (sym (head-of _ _ _ _ (c .before .before .values-base .ensures .0) (c .before .same-front .ensures)) ∙ not-true _ (c .if1 .taken))
 
 is-empty-requires : tie.Need-is-empty-requires
 is-empty-requires c κs = search needs
@@ -58,43 +38,43 @@ is-empty-requires c κs = search needs
 is-zero-from-requires : tie.Need-is-zero-from-requires
 is-zero-from-requires c κs =
     omega
-    (arith, base-fits _ (c .before .before .before .before .before .before .before .before .before .before .args .t .now) (c .before .before .before .before .before .before .before .before .before .before .args .s) (c .before .before .before .before .before .before .before .before .before .before .pre .1) (c .before .before .before .before .before .before .before .before .before .before .pre .0) (c .before .before .before .before .before .before .before .before .before .before .pre .2))
+    (arith, base-fits _ (c .before .before .before .before .before .before .before .before .args .t .now) (c .before .before .before .before .before .before .before .before .args .s) (c .before .before .before .before .before .before .before .before .pre .1) (c .before .before .before .before .before .before .before .before .pre .0) (c .before .before .before .before .before .before .before .before .pre .2))
 
 returns-2 : tie.Need-returns-2
 returns-2 c =
     c .is-zero-from .ensures ∙ rw
-    (c .before .before .before .before .before .before .before .before .values-base .ensures .0)
-    (by-clear _ _ _ (c .before .before .before .before .before .before .before .before .before .before .before .pre .1) (c .before .before .before .before .before .before .before .before .before .before .before .pre .0) (c .before .before .before .before .before .before .before .before .before .before .before .pre .2) (head (c .before .before .before .before)) (sym (c .before .before .is-empty .ensures) ∙ c .before .if2 .taken))
+    (c .before .before .before .before .before .before .values-base .ensures .0)
+    (by-clear _ _ _ (c .before .before .before .before .before .before .before .before .before .pre .1) (c .before .before .before .before .before .before .before .before .before .pre .0) (c .before .before .before .before .before .before .before .before .before .pre .2) (head (c .before .before .before .before)) (sym (c .before .before .is-empty .ensures) ∙ c .before .if2 .taken))
 
 values-end-requires : tie.Need-values-end-requires
-values-end-requires c κs = long _ (is-table _ (c .before .before .before .before .before .before .before .before .before .before .pre .2))
+values-end-requires c κs = long _ (is-table _ (c .before .before .before .before .before .before .before .before .pre .2))
 
 is-zero-from-requires-2 : tie.Need-is-zero-from-requires-2
 is-zero-from-requires-2 c κs =
     omega
-    (arith, end-fits _ (c .before .before .before .before .before .before .before .before .before .before .before .args .t .now) (c .before .before .before .before .before .before .before .before .before .before .before .args .s) (c .before .before .before .before .before .before .before .before .before .before .before .pre .1) (c .before .before .before .before .before .before .before .before .before .before .before .pre .0) (c .before .before .before .before .before .before .before .before .before .before .before .pre .2))
+    (arith, end-fits _ (c .before .before .before .before .before .before .before .before .before .args .t .now) (c .before .before .before .before .before .before .before .before .before .args .s) (c .before .before .before .before .before .before .before .before .before .pre .1) (c .before .before .before .before .before .before .before .before .before .pre .0) (c .before .before .before .before .before .before .before .before .before .pre .2))
 
 returns-3 : tie.Need-returns-3
 returns-3 c =
     bad-tail _ _ _
-    (c .before .before .before .before .before .before .before .before .before .before .before .before .before .pre .1)
-    (c .before .before .before .before .before .before .before .before .before .before .before .before .before .pre .0)
-    (c .before .before .before .before .before .before .before .before .before .before .before .before .before .pre .2)
+    (c .before .before .before .before .before .before .before .before .before .before .before .pre .1)
+    (c .before .before .before .before .before .before .before .before .before .before .before .pre .0)
+    (c .before .before .before .before .before .before .before .before .before .before .before .pre .2)
     (head (c .before .before .before .before .before .before))
     (sym (c .before .before .before .before .is-empty .ensures) ∙ c .before .before .before .if2 .left)
     (rw (← c .before .before .values-end .ensures .0) (sym (c .before .is-zero-from2 .ensures) ∙ not-true _ (c .if3 .taken)))
 
 values-ok-requires : tie.Need-values-ok-requires
 values-ok-requires c κs =
-    let e = end-there _ _ (c .before .before .before .before .before .before .before .before .before .before .before .before .before .args .s) (c .before .before .before .before .before .before .before .before .before .before .before .before .before .pre .1) (c .before .before .before .before .before .before .before .before .before .before .before .before .before .pre .0) (c .before .before .before .before .before .before .before .before .before .before .before .before .before .pre .2) (head (c .before .before .before .before .before .before)) in
-    ((omega (arith, c .before .before .before .before .before .before .before .before .before .before .before .before .before .pre .0), e), index-there _ _ (c .before .before .before .before .before .before .before .before .before .before .before .before .before .args .s) (c .before .before .before .before .before .before .before .before .before .before .before .before .before .pre .1) (c .before .before .before .before .before .before .before .before .before .before .before .before .before .pre .0) (c .before .before .before .before .before .before .before .before .before .before .before .before .before .pre .2) (head (c .before .before .before .before .before .before)))
+    let e = end-there _ _ (c .before .before .before .before .before .before .before .before .before .before .before .args .s) (c .before .before .before .before .before .before .before .before .before .before .before .pre .1) (c .before .before .before .before .before .before .before .before .before .before .before .pre .0) (c .before .before .before .before .before .before .before .before .before .before .before .pre .2) (head (c .before .before .before .before .before .before)) in
+    ((omega (arith, c .before .before .before .before .before .before .before .before .before .before .before .pre .0), e), index-there _ _ (c .before .before .before .before .before .before .before .before .before .before .before .args .s) (c .before .before .before .before .before .before .before .before .before .before .before .pre .1) (c .before .before .before .before .before .before .before .before .before .before .before .pre .0) (c .before .before .before .before .before .before .before .before .before .before .before .pre .2) (head (c .before .before .before .before .before .before)))
 
 returns-4 : tie.Need-returns-4
 returns-4 c =
     c .values-ok .ensures ∙ by-lengths _ _ _
-    (c .before .before .before .before .before .before .before .before .before .before .before .before .before .before .pre .1)
-    (c .before .before .before .before .before .before .before .before .before .before .before .before .before .before .pre .0)
-    (c .before .before .before .before .before .before .before .before .before .before .before .before .before .before .pre .2)
+    (c .before .before .before .before .before .before .before .before .before .before .before .before .pre .1)
+    (c .before .before .before .before .before .before .before .before .before .before .before .before .pre .0)
+    (c .before .before .before .before .before .before .before .before .before .before .before .before .pre .2)
     (head (c .before .before .before .before .before .before .before))
     (sym (c .before .before .before .before .before .is-empty .ensures) ∙ c .before .before .before .before .if2 .left)
     (rw (← c .before .before .before .values-end .ensures .0) (sym (c .before .before .is-zero-from2 .ensures) ∙ not-false _ (c .before .if3 .left)))
@@ -104,13 +84,7 @@ slot-ok-spec =
     tie.close
     (tie.spec
     values-base-requires
-    sub-same
-    part-same-start
-    part-same-end
-    sub-same-2
-    part-same-start-2
-    part-same-end-2
-    same-requires
+    same-front-requires
     returns
     is-empty-requires
     is-zero-from-requires
