@@ -16,8 +16,9 @@ use Rattle.table_builder.proofs.Grown.{pushed-length}
 use Rattle.table_builder.proofs.AsList.{builder-is-list}
 use Rattle.attribute.specs.Rules.{listOk}
 use Rattle.peers.specs.declared.Slot.{Slot}
+use Rattle.state.specs.declared.Prepared.{Prepared}
 use Rattle.state.specs.Fresh.{clientsOf, freshTable, tableSize, newTold, tablesNew}
-use Rattle.state.specs.Valid.{slotsOk, valid}
+use Rattle.state.specs.Valid.{slotsOk, valid, recordOk, validWith}
 
 -- the fresh table is a builder's bytes, 640 of them
 after-length : (ps : List Push) (bs : List ℕ) → length (afterAll bytesAfter bs ps) ≡ length bs
@@ -50,6 +51,15 @@ module _ (list : List (List ℕ)) (store : ℕ) (row : List Slot) (ts : List (Li
   pub by-slots : (fresh : List ℕ) → fresh ≡ freshTable list → length ts ≡ 8 → listOk list store ≡ true → tableSize list ≤ 640 → slotsOk fresh row ts ≡ valid list store row ts
   unfolding valid both
   by-slots fresh e n l s = rw (e, eq-eqb (length ts) 8 n, l, le-leb (tableSize list) 640 s)
+
+  -- `is_valid_with`
+  pub bad-record : (p : Prepared) → recordOk p ≡ false → false ≡ validWith list store row ts p
+  unfolding validWith
+  bad-record p h = sym (both-false-l _ _ h)
+
+  pub by-rest : (p : Prepared) → recordOk p ≡ true → valid list store row ts ≡ validWith list store row ts p
+  unfolding validWith both
+  by-rest p h = rw h refl
 
 -- `new`
 module _ (list : List (List ℕ)) (store : ℕ) (ts : List (List ℕ)) where

@@ -38,3 +38,7 @@ valid list store row ts =
 -- prepared data fit 512 bytes, none under handle 0
 unfoldable pub recordOk : Prepared → Bool
 recordOk p = both (leb (p .len) 512) (cond (eqb (p .handle) 0) (eqb (p .len) 0) true)
+
+-- the whole sentence: the link's prepared write too
+unfoldable pub validWith : List (List ℕ) → ℕ → List Slot → List (List ℕ) → Prepared → Bool
+validWith list store row ts p = both (recordOk p) (valid list store row ts)

@@ -5,7 +5,7 @@ use peers::Identity;
 use peers::Slot;
 ghost use mathlib.Core.Path.{_≡_};
 ghost use lib.ListN.{length};
-ghost use Rattle.state.specs.Valid.{recordOk, valid};
+ghost use Rattle.state.specs.Valid.{recordOk, valid, validWith};
 ghost use Rattle.state.specs.Fresh.{toldOpened, newTold, tablesNew, emptyRow};
 
 // A link's prepared write: its handle, 0 where there is none; where it starts; and how many bytes of it lie in the data beside it.
@@ -57,6 +57,22 @@ pub fn is_valid(list: &[[u8; 32]], store: usize, row: [Slot; 8], tables: &[[u8; 
         return false;
     }
     inner::slots_ok(row, tables, &fresh)
+}
+
+// Whether they are, with a link's prepared write: the whole of a state that a request meets.
+pub fn is_valid_with(
+    list: &[[u8; 32]],
+    store: usize,
+    row: [Slot; 8],
+    tables: &[[u8; 640]],
+    p: Prepared,
+) -> bool
+    ensures { λ r. ⌜ r ≡ validWith (now (list .entry)) store row (now (tables .entry)) p ⌝ }
+{
+    if !is_record(p) {
+        return false;
+    }
+    is_valid(list, store, row, tables)
 }
 
 // A fresh hub from a list, with a store of so many bytes: eight empty slots, each with the list's fresh table.
