@@ -54,8 +54,8 @@ module _ (list : List (List ℕ)) (store : ℕ) (row : List Slot) (ts : List (Li
 
   -- `is_valid_with`
   pub bad-record : (p : Prepared) → recordOk p ≡ false → false ≡ validWith list store row ts p
-  unfolding validWith
-  bad-record p h = sym (both-false-l _ _ h)
+  unfolding validWith both
+  bad-record p h = rw h refl
 
   pub by-rest : (p : Prepared) → recordOk p ≡ true → valid list store row ts ≡ validWith list store row ts p
   unfolding validWith both
