@@ -3,8 +3,8 @@ ghost use mathlib.Core.Path.{_≡_};
 ghost use mathlib.Core.List.{[]};
 ghost use Prim.Native.Nat.{_+_, _<_};
 ghost use lib.ListN.{length, getD, set, drop};
-ghost use Rattle.attribute.specs.Record.{attributeOf, uuidOf, withLength};
-ghost use Rattle.attribute.specs.Lookup.{handleOf, isService, groupEnd};
+ghost use Rattle.attribute.specs.Record.{attributeOf, uuidOf, withLength, entryOf};
+ghost use Rattle.attribute.specs.Lookup.{handleOf, entriesOf, isWithin, isWanted, isService, groupEnd};
 use crate::Attribute;
 use wire::least;
 
@@ -53,7 +53,7 @@ pub fn set_length(list: &mut [[u8; 32]], i: usize, n: u16)
 // Whether an entry starts a service, primary or secondary.
 fn is_service(list: &[[u8; 32]], i: usize) -> bool
     requires { ⌜ i < length (now list) ⌝ }
-    ensures { λ r. ⌜ r ≡ isService (getD (now (list .entry)) i []) ⌝ }
+    ensures { λ r. ⌜ r ≡ isService (entryOf (getD (now (list .entry)) i [])) ⌝ }
 {
     let u = uuid(&list[i]);
     if wire::uuid::same_uuid(u, &[0x00, 0x28]) {
@@ -65,7 +65,7 @@ fn is_service(list: &[[u8; 32]], i: usize) -> bool
 // The last handle of the group that the entry at place i begins or belongs to.
 pub fn group_end(list: &[[u8; 32]], i: usize) -> u16
     requires { ⌜ i < length (now list) ⌝ }
-    ensures { λ r. ⌜ r ≡ groupEnd (handleOf (getD (now (list .entry)) i [])) (drop (i + 1) (now (list .entry))) ⌝ }
+    ensures { λ r. ⌜ r ≡ groupEnd (handleOf (getD (now (list .entry)) i [])) (entriesOf (drop (i + 1) (now (list .entry)))) ⌝ }
 {
     let mut end = handle_at(list, i);
     let mut j = i + 1;
@@ -77,4 +77,27 @@ pub fn group_end(list: &[[u8; 32]], i: usize) -> u16
         j += 1;
     }
     end
+}
+
+// Whether an entry's handle lies in a range.
+pub fn is_within(list: &[[u8; 32]], i: usize, start: u16, end: u16) -> bool
+    requires { ⌜ i < length (now list) ⌝ }
+    ensures { λ r. ⌜ r ≡ isWithin start end (entryOf (getD (now (list .entry)) i [])) ⌝ }
+{
+    let h = handle_at(list, i);
+    if h < start {
+        return false;
+    }
+    h <= end
+}
+
+// Whether an entry lies in a range and is of a type.
+pub fn is_wanted(list: &[[u8; 32]], i: usize, start: u16, end: u16, wanted: &[u8]) -> bool
+    requires { ⌜ i < length (now list) ⌝ }
+    ensures { λ r. ⌜ r ≡ isWanted start end (now (wanted .entry)) (entryOf (getD (now (list .entry)) i [])) ⌝ }
+{
+    if !is_within(list, i, start, end) {
+        return false;
+    }
+    wire::uuid::same_uuid(uuid(&list[i]), wanted)
 }

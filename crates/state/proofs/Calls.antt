@@ -26,7 +26,7 @@ use Rattle.state.proofs.Each.{slots-by}
 use Rattle.state.proofs.Keeping.{nobodys, taken-valid, retaken-valid, parted-valid, emptied-valid}
 
 -- a peer that may call is somebody
-good-somebody : (who : Identity) → isBad who ≡ false → isEmpty who ≡ false
+pub good-somebody : (who : Identity) → isBad who ≡ false → isEmpty who ≡ false
 unfolding isBad
 good-somebody who h = by (isEmpty who) h
   where

@@ -1,13 +1,14 @@
 -- Laws of the cursor: a write that fits and one that does not, and a run of writes. Assumes nothing.
 use mathlib.Core.Path.{_≡_, refl, sym, ap, _∙_}
-use mathlib.Core.Bool.{true, false}
+use mathlib.Core.Bool.{true}
 use mathlib.Core.List.{List, [], _++_}
 use Prim.Native.Nat.{ℕ, _+_, _≤_, _<_}
+use native.Mathlib.Nat.{add-zero, add-assoc}
 use native.Mathlib.Omega.{arith}
 use lib.ListN.{length, length-append}
 use lib.Seq.{sets, length-sets}
 use borrow.Author.Tests.{le-leb, lt-leb}
-use Rattle.wire.specs.Cursor.{put, moved}
+use Rattle.wire.specs.Cursor.{put, moved, Wrote}
 use Rattle.wire.specs.declared.cursor.WriteCursor.{WriteCursor}
 use Rattle.wire.proofs.Sets.{sets-append}
 
@@ -29,26 +30,34 @@ module _ (size : ℕ) (c : WriteCursor) (n : ℕ) where
   unfolding moved
   full-moved h = simp (lt-leb _ _ h)
 
--- the bytes ws stand at the start of what was b, the cursor is after them, and each write had room
-pub record Written (b ws out : List ℕ) (c : WriteCursor) : Type 0 where
-  pub bytes : out ≡ sets b 0 ws
-  pub count : c .len ≡ length ws
-  pub fitted : c .full ≡ false
+-- a write with room, none at all, and one after another
+module _ (old : List ℕ) (c : WriteCursor) where
+  pub wrote : (new vs : List ℕ) (next : WriteCursor) → c .len + length vs ≤ length old → next ≡ moved (length old) c (length vs) → new ≡ put old (c .len) vs → Wrote old new c next vs
+  wrote new vs next room m p =
+      record {
+        cursor = m ∙ sym (fits-moved (length old) c (length vs) room);
+        fits = room;
+        bytes = p ∙ sym (fits-put old (c .len) vs room);
+      }
 
-pub nothing : (b : List ℕ) (c : WriteCursor) → c .len ≡ 0 → c .full ≡ false → Written b [] b c
-nothing b c e f = record { bytes = refl; count = e; fitted = f }
+  pub wrote-none : c .len ≤ length old → Wrote old old c c []
+  wrote-none h = record { cursor = rw add-zero; fits = omega arith; bytes = refl }
 
--- where there is room, vs comes after ws
-pub more : (b ws out : List ℕ) (c : WriteCursor) (vs out′ : List ℕ) (c′ : WriteCursor) → Written b ws out c → length ws + length vs ≤ length b → c′ ≡ moved (length out) c (length vs) → out′ ≡ put out (c .len) vs → Written b (ws ++ vs) out′ c′
-more b ws out c vs out′ c′ w room m p =
-    let l : length out ≡ length b = ap length (w .bytes) ∙ length-sets b 0 ws in
-    let r : c .len + length vs ≤ length out = omega (arith, w .count) in
-    let e : record { len = c .len + length vs; full = c .full } ≡ c′ = fits-moved (length out) c (length vs) r ∙ sym m in
-    record {
-      bytes = p ∙ sym (fits-put out (c .len) vs r) ∙ rw (w .bytes, w .count) (sets-more b ws vs);
-      count = ap (λ (x : WriteCursor). x .len) (sym e) ∙ rw (w .count) (sym (length-append ws vs));
-      fitted = ap (λ (x : WriteCursor). x .full) (sym e) ∙ w .fitted;
-    }
-  where
-    sets-more : (b ws vs : List ℕ) → sets (sets b 0 ws) (length ws) vs ≡ sets b 0 (ws ++ vs)
-    sets-more b ws vs = rw (← sets-append ws vs b 0) (let e : 0 + length ws ≡ length ws = omega arith in rw e)
+  pub wrote-then : (mid new vs ws : List ℕ) (next last : WriteCursor) → Wrote old mid c next vs → Wrote mid new next last ws → Wrote old new c last (vs ++ ws)
+  wrote-then mid new vs ws next last a b =
+      let l : length mid ≡ length old = ap length (a .bytes) ∙ length-sets old (c .len) vs in
+      let n : next .len ≡ c .len + length vs = ap (λ (x : WriteCursor). x .len) (a .cursor) in
+      let f : next .full ≡ c .full = ap (λ (x : WriteCursor). x .full) (a .cursor) in
+      record {
+        cursor = b .cursor ∙ rw (n, f, length-append, add-assoc);
+        fits = rw length-append (omega (arith, b .fits));
+        bytes = b .bytes ∙ rw (a .bytes, n) (sets-append vs ws old (c .len));
+      }
+
+  -- the same bytes under another name
+  pub wrote-as : (new vs ws : List ℕ) (next : WriteCursor) → Wrote old new c next vs → vs ≡ ws → Wrote old new c next ws
+  wrote-as new vs ws next w e = rw e at w
+
+-- no byte more or less in the buffer
+pub wrote-length : (old new vs : List ℕ) (c next : WriteCursor) → Wrote old new c next vs → length new ≡ length old
+wrote-length old new vs c next w = ap length (w .bytes) ∙ length-sets old (c .len) vs

@@ -4,13 +4,13 @@ use mathlib.Core.Path.{_≡_, sym, _∙_}
 use Prim.Native.Nat.{_+_, _-_}
 use native.Mathlib.Omega.{arith}
 use lib.ListN.{length, getD, drop}
-use Rattle.attribute.specs.Lookup.{handleOf, groupEnd}
+use Rattle.attribute.specs.Lookup.{entriesOf, handleOf, groupEnd}
 use Rattle.attribute.proofs.Entries.{group-stops, group-goes-on, group-ends}
 use Rattle.attribute.proofs.inner.group_end.Statement.{statement}
 use Rattle.attribute.proofs.inner.group_end.Tie as tie
 
 abbrev Inv-loop : tie.InvT-loop
-Inv-loop list i end₀ j₀ end j = groupEnd end (drop j list) ≡ groupEnd (handleOf (getD list i [])) (drop (i + 1) list)
+Inv-loop list i end₀ j₀ end j = groupEnd end (entriesOf (drop j list)) ≡ groupEnd (handleOf (getD list i [])) (entriesOf (drop (i + 1) list))
 
 abbrev μ-loop : tie.MeasureT-loop
 μ-loop list i end₀ j₀ end j = length list - j

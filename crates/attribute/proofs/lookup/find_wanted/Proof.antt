@@ -4,14 +4,14 @@ use mathlib.Core.Path.{_≡_, refl, sym, _∙_}
 use Prim.Native.Nat.{_-_}
 use native.Mathlib.Omega.{arith}
 use lib.ListN.{length}
-use Rattle.attribute.specs.Lookup.{isWanted}
+use Rattle.attribute.specs.Lookup.{recorded, isWanted}
 use Rattle.wire.specs.Walk.{placeFrom}
 use Rattle.wire.proofs.Walk.{hit, miss, none-left}
 use Rattle.attribute.proofs.lookup.find_wanted.Statement.{statement}
 use Rattle.attribute.proofs.lookup.find_wanted.Tie as tie
 
 abbrev Inv-loop : tie.InvT-loop
-Inv-loop list from start end uuid i₀ i = placeFrom (isWanted start end uuid) list i ≡ placeFrom (isWanted start end uuid) list from
+Inv-loop list from start end uuid i₀ i = placeFrom (recorded (isWanted start end uuid)) list i ≡ placeFrom (recorded (isWanted start end uuid)) list from
 
 abbrev μ-loop : tie.MeasureT-loop
 μ-loop list from start end uuid i₀ i = length list - i
@@ -25,7 +25,7 @@ is-wanted-requires c κs = omega arith
 returns : tie.Need-returns Inv-loop μ-loop
 returns c =
     sym
-    (hit (isWanted _ _ _) [] (c .before .before .before .before .before .args .list .now) _ (c .before .before .loop-test .taken) (sym (c .before .is-wanted .ensures) ∙ c .if1 .taken))
+    (hit (recorded (isWanted _ _ _)) [] (c .before .before .before .before .before .args .list .now) _ (c .before .before .loop-test .taken) (sym (c .before .is-wanted .ensures) ∙ c .if1 .taken))
     ∙ c .before .before .before .loop .inv
 
 add-i : tie.Need-add-i Inv-loop μ-loop
@@ -37,7 +37,7 @@ loop-less c = omega arith
 loop-again : tie.Need-loop-again Inv-loop μ-loop
 loop-again c =
     sym
-    (miss (isWanted _ _ _) [] (c .before .before .before .before .before .args .list .now) _ (c .before .before .loop-test .taken) (sym (c .before .is-wanted .ensures) ∙ c .if1 .left))
+    (miss (recorded (isWanted _ _ _)) [] (c .before .before .before .before .before .args .list .now) _ (c .before .before .loop-test .taken) (sym (c .before .is-wanted .ensures) ∙ c .if1 .left))
     ∙ c .before .before .before .loop .inv
 
 returns-2 : tie.Need-returns-2 Inv-loop μ-loop

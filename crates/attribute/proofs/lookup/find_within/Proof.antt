@@ -4,14 +4,14 @@ use mathlib.Core.Path.{_≡_, refl, sym, _∙_}
 use Prim.Native.Nat.{_-_}
 use native.Mathlib.Omega.{arith}
 use lib.ListN.{length}
-use Rattle.attribute.specs.Lookup.{isWithin}
+use Rattle.attribute.specs.Lookup.{recorded, isWithin}
 use Rattle.wire.specs.Walk.{placeFrom}
 use Rattle.wire.proofs.Walk.{hit, miss, none-left}
 use Rattle.attribute.proofs.lookup.find_within.Statement.{statement}
 use Rattle.attribute.proofs.lookup.find_within.Tie as tie
 
 abbrev Inv-loop : tie.InvT-loop
-Inv-loop list from start end i₀ i = placeFrom (isWithin start end) list i ≡ placeFrom (isWithin start end) list from
+Inv-loop list from start end i₀ i = placeFrom (recorded (isWithin start end)) list i ≡ placeFrom (recorded (isWithin start end)) list from
 
 abbrev μ-loop : tie.MeasureT-loop
 μ-loop list from start end i₀ i = length list - i
@@ -25,7 +25,7 @@ is-within-requires c κs = omega arith
 returns : tie.Need-returns Inv-loop μ-loop
 returns c =
     sym
-    (hit (isWithin _ _) [] (c .before .before .before .before .args .list .now) _ (c .before .before .loop-test .taken) (sym (c .before .is-within .ensures) ∙ c .if1 .taken))
+    (hit (recorded (isWithin _ _)) [] (c .before .before .before .before .args .list .now) _ (c .before .before .loop-test .taken) (sym (c .before .is-within .ensures) ∙ c .if1 .taken))
     ∙ c .before .before .before .loop .inv
 
 add-i : tie.Need-add-i Inv-loop μ-loop
@@ -37,7 +37,7 @@ loop-less c = omega arith
 loop-again : tie.Need-loop-again Inv-loop μ-loop
 loop-again c =
     sym
-    (miss (isWithin _ _) [] (c .before .before .before .before .args .list .now) _ (c .before .before .loop-test .taken) (sym (c .before .is-within .ensures) ∙ c .if1 .left))
+    (miss (recorded (isWithin _ _)) [] (c .before .before .before .before .args .list .now) _ (c .before .before .loop-test .taken) (sym (c .before .is-within .ensures) ∙ c .if1 .left))
     ∙ c .before .before .before .loop .inv
 
 returns-2 : tie.Need-returns-2 Inv-loop μ-loop

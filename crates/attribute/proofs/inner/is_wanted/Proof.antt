@@ -1,10 +1,10 @@
--- `attribute::lookup::is_wanted` meets its contract. A law for each answer, in the order of the tests. Assumes nothing.
+-- `attribute::inner::is_wanted` meets its contract. A law for each answer, in the order of the tests. Assumes nothing.
 use mathlib.Core.Path.{sym, _∙_}
 use borrow.Author.Needs.{needs}
 use borrow.Author.Tests.{not-true, not-false}
 use Rattle.attribute.proofs.Entries.{outside, inside}
-use Rattle.attribute.proofs.lookup.is_wanted.Statement.{statement}
-use Rattle.attribute.proofs.lookup.is_wanted.Tie as tie
+use Rattle.attribute.proofs.inner.is_wanted.Statement.{statement}
+use Rattle.attribute.proofs.inner.is_wanted.Tie as tie
 
 is-within-requires : tie.Need-is-within-requires
 is-within-requires c κs = search needs

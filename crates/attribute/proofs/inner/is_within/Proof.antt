@@ -1,9 +1,9 @@
--- `attribute::lookup::is_within` meets its contract. A law for each answer, in the order of the tests. Assumes nothing.
+-- `attribute::inner::is_within` meets its contract. A law for each answer, in the order of the tests. Assumes nothing.
 use native.Mathlib.Omega.{arith}
 use borrow.Author.Needs.{needs}
 use Rattle.attribute.proofs.Entries.{low, not-low}
-use Rattle.attribute.proofs.lookup.is_within.Statement.{statement}
-use Rattle.attribute.proofs.lookup.is_within.Tie as tie
+use Rattle.attribute.proofs.inner.is_within.Statement.{statement}
+use Rattle.attribute.proofs.inner.is_within.Tie as tie
 
 handle-at-requires : tie.Need-handle-at-requires
 handle-at-requires c κs = search needs

@@ -1,0 +1,121 @@
+-- `finding::inner::find_by_type_value` meets its contract. A bad range, no row, or the rows: a law for each. Assumes nothing.
+use mathlib.Core.Path.{_≡_, sym, _∙_}
+use mathlib.Core.Bool.{false}
+use mathlib.Core.List.{List}
+use Prim.Native.Nat.{ℕ}
+use native.Mathlib.Omega.{arith}
+use denote.Ref.{now}
+use borrow.Author.Needs.{needs}
+use Rattle.wire.specs.Number.{wordBytes}
+use Rattle.attribute.specs.Lookup.{isWanted}
+use Rattle.model.proofs.Sending.{sent-as, bad-range, good-range}
+use Rattle.model.specs.Rows.{findTurn}
+use Rattle.model.specs.Run.{run}
+use Rattle.model.specs.Answer.{isBadRange}
+use Rattle.finding.proofs.Founds.{find-room, rows-sent, error-sent}
+use Rattle.finding.proofs.inner.find_by_type_value.Statement.{statement}
+use Rattle.finding.proofs.inner.find_by_type_value.Tie as tie
+
+-- the range is good
+good : (c : tie.Else1) → isBadRange (c .before .before .before .before .before .args .g) ≡ false
+good c = sym (c .before .is-bad .ensures) ∙ c .if1 .left
+
+-- the rows that the loop writes, by the room that is left
+abbrev rows : tie.After-put-found → ℕ → List ℕ
+rows c =
+    run
+    (findTurn
+    (now (c .before .before .before .before .before .before .before .before .before .before .before .before .before .args .store))
+    (isWanted (c .before .before .before .before .before .before .before .before .before .before .before .before .before .args .g .start) (c .before .before .before .before .before .before .before .before .before .before .before .before .before .args .g .end) (wordBytes (c .before .before .before .before .before .before .before .before .before .before .before .before .before .args .uuid)))
+    (now (c .before .before .before .before .before .before .before .before .before .before .before .before .before .args .d)))
+    (now (c .before .before .before .before .before .before .before .before .before .before .before .before .before .args .list))
+
+is-bad-requires : tie.Need-is-bad-requires
+is-bad-requires c κs = search needs
+
+error-response-requires : tie.Need-error-response-requires
+error-response-requires c κs = search needs
+
+same-length : tie.Need-same-length
+same-length c = search needs
+
+returns : tie.Need-returns
+returns c =
+    sent-as _ _ _ _ _ (c .before .before .error-response .ensures)
+    (bad-range _ _ (sym (c .before .before .before .before .before .is-bad .ensures) ∙ c .before .before .before .before .if1 .taken))
+
+new-requires : tie.Need-new-requires
+new-requires c κs = search needs
+
+byte-requires : tie.Need-byte-requires
+byte-requires c κs = search needs
+
+cast-t17 : tie.Need-cast-t17
+cast-t17 c = search needs
+
+cast-t19 : tie.Need-cast-t19
+cast-t19 c = search needs
+
+slice-aggregate-put-found : tie.Need-slice-aggregate-put-found
+slice-aggregate-put-found c = search needs
+
+put-found-requires : tie.Need-put-found-requires
+put-found-requires c κs = (
+  c .before .before .before .before .before .before .before .before .before .before .before .before .pre .0,
+  find-room _ _ _ _ (omega (arith, c .before .before .before .before .before .before .before .before .before .before .before .before .pre .1))
+      (c .before .before .before .before .before .before .new .ensures .0)
+      (c .before .before .before .before .byte .ensures .0)
+      (c .before .before .before .before .byte .ensures .1),
+)
+
+error-response-requires-2 : tie.Need-error-response-requires-2
+error-response-requires-2 c κs = search needs
+
+same-length-2 : tie.Need-same-length-2
+same-length-2 c = search needs
+
+returns-2 : tie.Need-returns-2
+returns-2 c =
+    sent-as _ _ _ _ _
+    (error-sent _ _ _ _ _ _ _ (rows (c .before .before .before .before .before .before .before .before)) (omega (arith, c .before .before .before .before .before .before .before .before .before .before .before .before .before .before .before .before .before .before .before .before .before .pre .1))
+    (c .before .before .before .before .before .before .before .before .before .before .before .before .before .before .before .new .ensures .0)
+    (c .before .before .before .before .before .before .before .before .before .before .before .before .before .byte .ensures .0)
+    (c .before .before .before .before .before .before .before .before .before .before .before .before .before .byte .ensures .1)
+    (c .before .before .before .before .before .before .before .before .put-found .ensures)
+    (c .before .before .before .before .if2 .taken) _ _
+    (c .before .before .error-response2 .ensures))
+    (good-range _ _ (good (c .before .before .before .before .before .before .before .before .before .before .before .before .before .before .before .before)))
+
+same-length-3 : tie.Need-same-length-3
+same-length-3 c = search needs
+
+returns-3 : tie.Need-returns-3
+returns-3 c =
+    sent-as _ _ _ _ _
+    (rows-sent _ _ _ _ _ _ _ (rows (c .before .before .before .before)) (omega (arith, c .before .before .before .before .before .before .before .before .before .before .before .before .before .before .before .before .before .pre .1))
+    (c .before .before .before .before .before .before .before .before .before .before .before .new .ensures .0)
+    (c .before .before .before .before .before .before .before .before .before .byte .ensures .0)
+    (c .before .before .before .before .before .before .before .before .before .byte .ensures .1)
+    (c .before .before .before .before .put-found .ensures)
+    (c .if2 .left))
+    (good-range _ _ (good (c .before .before .before .before .before .before .before .before .before .before .before .before)))
+
+pub find-by-type-value-spec : {M : Type 1} → statement M
+find-by-type-value-spec =
+    tie.close
+    (tie.spec
+    is-bad-requires
+    error-response-requires
+    same-length
+    returns
+    new-requires
+    byte-requires
+    cast-t17
+    cast-t19
+    slice-aggregate-put-found
+    put-found-requires
+    error-response-requires-2
+    same-length-2
+    returns-2
+    same-length-3
+    returns-3)

@@ -1,0 +1,2 @@
+// Find Information and Find By Type Value.
+pub mod inner;

@@ -1,0 +1,43 @@
+-- `listing::inner::put_lead` meets its contract. The handle, and the group's end behind it where the form wants it. Assumes nothing.
+use borrow.Author.Tests.{not-true, not-false}
+use Rattle.listing.proofs.Lists.{lead-plain, lead-group}
+use borrow.Author.Needs.{needs}
+use Rattle.listing.proofs.inner.put_lead.Statement.{statement}
+use Rattle.listing.proofs.inner.put_lead.Tie as tie
+
+handle-at-requires : tie.Need-handle-at-requires
+handle-at-requires c κs = search needs
+
+word-requires : tie.Need-word-requires
+word-requires c κs = search needs
+
+same-length : tie.Need-same-length
+same-length c = search needs
+
+returns : tie.Need-returns
+returns c = lead-plain _ _ _ _ _ _ _ _ (c .before .before .before .before .before .before .before .before .pre .1) (c .before .before .before .before .before .handle-at .ensures) (c .before .before .before .before .word .ensures .0) (c .before .before .before .before .word .ensures .1) (not-true _ (c .if1 .taken))
+
+group-end-requires : tie.Need-group-end-requires
+group-end-requires c κs = search needs
+
+word-requires-2 : tie.Need-word-requires-2
+word-requires-2 c κs = search needs
+
+same-length-2 : tie.Need-same-length-2
+same-length-2 c = search needs
+
+returns-2 : tie.Need-returns-2
+returns-2 c = lead-group _ _ _ _ _ _ _ _ (c .before .before .before .before .before .before .before .before .before .before .before .before .before .pre .1) (c .before .before .before .before .before .before .before .before .before .before .handle-at .ensures) (c .before .before .before .before .before .before .before .before .before .word .ensures .0) (c .before .before .before .before .before .before .before .before .before .word .ensures .1) (not-false _ (c .before .before .before .before .before .if1 .left)) _ _ _ (c .before .before .before .group-end .ensures) (c .before .before .word2 .ensures .0) (c .before .before .word2 .ensures .1)
+
+pub put-lead-spec : {M : Type 1} → statement M
+put-lead-spec =
+    tie.close
+    (tie.spec
+    handle-at-requires
+    word-requires
+    same-length
+    returns
+    group-end-requires
+    word-requires-2
+    same-length-2
+    returns-2)

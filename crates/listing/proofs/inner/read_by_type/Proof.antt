@@ -1,0 +1,20 @@
+-- `listing::inner::read_by_type` meets its contract. The form of Read By Type. Assumes nothing.
+use Rattle.model.specs.Rows.{extraOf, byTypeForm}
+use native.Mathlib.Omega.{arith}
+use borrow.Author.Needs.{needs}
+use Rattle.listing.proofs.inner.read_by_type.Statement.{statement}
+use Rattle.listing.proofs.inner.read_by_type.Tie as tie
+
+read-by-requires : tie.Need-read-by-requires
+unfolding extraOf
+read-by-requires c κs = (c .before .before .before .before .before .pre .0, c .before .before .before .before .before .pre .1, omega arith)
+
+same-length : tie.Need-same-length
+same-length c = search needs
+
+returns : tie.Need-returns
+unfolding byTypeForm
+returns c = c .before .before .read-by .ensures
+
+pub read-by-type-spec : {M : Type 1} → statement M
+read-by-type-spec = tie.close (tie.spec read-by-requires same-length returns)

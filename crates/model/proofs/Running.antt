@@ -1,0 +1,141 @@
+-- One loop for every list answer: the laws of its invariant, and of where a list starts. Assumes nothing.
+use mathlib.Core.Path.{_≡_, refl, sym, ap, _∙_}
+use mathlib.Core.Bool.{Bool, true, false, cond}
+use mathlib.Core.List.{List, [], _∷_, _++_, map, append-nil}
+use Prim.Native.Nat.{ℕ, zero, suc, _+_, _-_, _≤_, _<_}
+use native.Mathlib.Numerals.{add-one}
+use native.Mathlib.Omega.{arith}
+use lib.ListN.{length, getD, drop, length-append, drop-of-length-le}
+use lib.Seq.{sets, length-sets, drop-cons}
+use Rattle.wire.specs.Walk.{placeFrom}
+use Rattle.wire.specs.declared.Found.the-variants.{At, Nothing}
+use Rattle.wire.specs.Cursor.{Wrote}
+use Rattle.wire.specs.declared.cursor.WriteCursor.{WriteCursor}
+use Rattle.wire.proofs.Sets.{sets-append}
+use Rattle.wire.proofs.Walk.{placed, none-passes}
+use Rattle.wire.proofs.Written.{wrote-length, wrote-none}
+use Rattle.model.specs.Run.{Chunk, stop, skip, run, fromFirst, Turned}
+use Rattle.model.specs.declared.Turn.{Turn}
+
+-- the invariant of a list answer's loop: what is still to be written, written, gives what the whole run, written from the first cursor on, gives
+pub record Going {A : Type 0} (turn : A → List A → ℕ → Chunk) (l : List A) (old : List ℕ) (from : WriteCursor) (whole out : List ℕ) (c : WriteCursor) (i : ℕ) : Type 0 where
+  pub place : i ≤ length l
+  pub size : length out ≡ length old
+  pub room : c .len ≤ length out
+  pub full : c .full ≡ from .full
+  pub bytes : sets out (c .len) (run turn (drop i l) (length out - c .len)) ≡ sets old (from .len) whole
+  pub total : c .len + length (run turn (drop i l) (length out - c .len)) ≡ from .len + length whole
+
+same-cursor : (c : WriteCursor) (n : ℕ) (f : Bool) → c .len ≡ n → c .full ≡ f → c ≡ record { len = n; full = f }
+same-cursor c n f p q = rw (← p, ← q)
+
+module _ {A : Type 0} (turn : A → List A → ℕ → Chunk) (d : A) (l : List A) where
+  one-turn : (i room : ℕ) → i < length l
+      → run turn (drop i l) room ≡ turn (getD l i d) (drop (i + 1) l) room .bytes ++ cond (turn (getD l i d) (drop (i + 1) l) room .more) (run turn (drop (i + 1) l) (room - length (turn (getD l i d) (drop (i + 1) l) room .bytes))) []
+  unfolding run
+  one-turn i room h = rw (drop-cons l i d h, add-one)
+
+  none-left : (i room : ℕ) → length l ≤ i → run turn (drop i l) room ≡ []
+  unfolding run
+  none-left i room h = rw (drop-of-length-le l h)
+
+  pub going-start : (out : List ℕ) (c : WriteCursor) (i : ℕ) → i ≤ length l → c .len ≤ length out → Going turn l out c (run turn (drop i l) (length out - c .len)) out c i
+  going-start out c i p r = record { place = p; size = refl; room = r; full = refl; bytes = refl; total = refl }
+
+  module _ (old : List ℕ) (from : WriteCursor) (whole out : List ℕ) (c : WriteCursor) (i : ℕ) (g : Going turn l old from whole out c i) where
+    done : (new : List ℕ) (last : WriteCursor) → last .full ≡ from .full → last .len ≡ from .len + length whole → from .len + length whole ≤ length old → new ≡ sets old (from .len) whole → Wrote old new from last whole
+    done new last f n h e = record { cursor = same-cursor last (from .len + length whole) (from .full) n f; fits = h; bytes = e }
+
+    pub going-end : length l ≤ i → Wrote old out from c whole
+    going-end h =
+        let b = rw (none-left i (length out - c .len) h) at (g .bytes) in
+        let t = rw (none-left i (length out - c .len) h) at (g .total) in
+        done out c (g .full) (omega (arith, t)) (omega (arith, t, g .room, g .size)) b
+
+    module _ (h : i < length l) (new : List ℕ) (t : Turn) (m : Turned out new c t (turn (getD l i d) (drop (i + 1) l) (length out - c .len))) where
+      abbrev k : Chunk
+      k = turn (getD l i d) (drop (i + 1) l) (length out - c .len)
+
+      same : length new ≡ length old
+      same = wrote-length _ _ _ _ _ (m .wrote) ∙ g .size
+
+      next-len : t .cursor .len ≡ c .len + length (k .bytes)
+      next-len = ap (λ (x : WriteCursor). x .len) (m .wrote .cursor)
+
+      next-full : t .cursor .full ≡ from .full
+      next-full = ap (λ (x : WriteCursor). x .full) (m .wrote .cursor) ∙ g .full
+
+      pub going-stop : t .more ≡ false → Wrote old new from (t .cursor) whole
+      going-stop e =
+          let s : k .more ≡ false = sym (m .more) ∙ e in
+          let r = rw (one-turn i (length out - c .len) h, s, append-nil (k .bytes)) at (g .bytes) in
+          let q = rw (one-turn i (length out - c .len) h, s, append-nil (k .bytes)) at (g .total) in
+          done new (t .cursor) next-full (next-len ∙ q) (omega (arith, q, m .wrote .fits, g .size)) (m .wrote .bytes ∙ r)
+
+      pub going-more : t .more ≡ true → Going turn l old from whole new (t .cursor) (i + 1)
+      going-more e =
+          let s : k .more ≡ true = sym (m .more) ∙ e in
+          let left : (length out - c .len) - length (k .bytes) ≡ length new - t .cursor .len = omega (arith, same, g .size, next-len) in
+          let r = rw (one-turn i (length out - c .len) h, s, left, ← sets-append (k .bytes), ← m .wrote .bytes, ← next-len) at (g .bytes) in
+          let q = rw (one-turn i (length out - c .len) h, s, left, length-append) at (g .total) in
+          record {
+            place = omega arith;
+            size = same;
+            room = omega (arith, m .wrote .fits, same, g .size, next-len);
+            full = next-full;
+            bytes = r;
+            total = omega (arith, q, next-len);
+          }
+
+-- a run over a list of pictures
+pub run-map : {A B : Type 0} (g : A → B) (turn : B → List B → ℕ → Chunk) (l : List A) (room : ℕ) → run turn (map g l) room ≡ run (λ (x : A) (xs : List A). turn (g x) (map g xs)) l room
+unfolding run
+run-map g turn [] room = refl
+run-map g turn (x ∷ l) room =
+    let k = turn (g x) (map g l) room in
+    ap (λ (r : List ℕ). k .bytes ++ cond (k .more) r []) (run-map g turn l (room - length (k .bytes)))
+
+-- a turn that writes nothing, and ends the list or goes on
+module _ (out : List ℕ) (c : WriteCursor) (k : Chunk) (h : c .len ≤ length out) where
+  pub stopped : stop ≡ k → Turned out out c (record { more = false; cursor = c }) k
+  stopped e = rw (← e) (record { more = refl; wrote = wrote-none out c h })
+
+  pub skipped : skip ≡ k → Turned out out c (record { more = true; cursor = c }) k
+  skipped e = rw (← e) (record { more = refl; wrote = wrote-none out c h })
+
+pub turned-as : (old new : List ℕ) (c : WriteCursor) (t : Turn) (k m : Chunk) → Turned old new c t k → k ≡ m → Turned old new c t m
+turned-as old new c t k m h e = rw e at h
+
+-- where a list starts
+module _ {A : Type 0} (p : A → Bool) where
+  from-at : (d : A) (l : List A) (i : ℕ) → i < length l → ((j : ℕ) → j < i → p (getD l j d) ≡ false) → p (getD l i d) ≡ true → fromFirst p l ≡ drop i l
+  unfolding fromFirst
+  from-at d [] i h f t = absurd (omega arith)
+  from-at d (x ∷ l) zero h f t = rw t
+  from-at d (x ∷ l) (suc i) h f t = rw (f 0 (omega arith)) (from-at d l i (omega arith) (λ j b. f (suc j) (omega arith)) t)
+
+  from-none : (d : A) (l : List A) → ((j : ℕ) → j < length l → p (getD l j d) ≡ false) → fromFirst p l ≡ []
+  unfolding fromFirst
+  from-none d [] f = refl
+  from-none d (x ∷ l) f = rw (f 0 (omega arith)) (from-none d l (λ j b. f (suc j) (omega arith)))
+
+  pub starts-at : (d : A) (l : List A) (i : ℕ) → placeFrom p l 0 ≡ At i → fromFirst p l ≡ getD l i d ∷ drop (i + 1) l
+  starts-at d l i h =
+      let w = placed p d l 0 i h in
+      from-at d l i (w .inside) (λ j b. w .first j (omega arith) b) (w .passes) ∙ rw (drop-cons l i d (w .inside), add-one)
+
+  pub starts-nowhere : (d : A) (l : List A) → placeFrom p l 0 ≡ Nothing → fromFirst p l ≡ []
+  starts-nowhere d l h = from-none d l (λ j b. none-passes p d l (length l) 0 (omega arith) h j (omega arith) b)
+
+choose-map : {A B : Type 0} (g : A → B) (t : Bool) (x : A) (xs ys : List A) (zs : List B) → zs ≡ map g ys → cond t (g x ∷ map g xs) zs ≡ map g (cond t (x ∷ xs) ys)
+choose-map g true x xs ys zs e = refl
+choose-map g false x xs ys zs e = e
+
+pub from-map : {A B : Type 0} (g : A → B) (p : B → Bool) (l : List A) → fromFirst p (map g l) ≡ map g (fromFirst (λ (x : A). p (g x)) l)
+unfolding fromFirst
+from-map g p [] = refl
+from-map g p (x ∷ l) = choose-map g (p (g x)) x l _ _ (from-map g p l)
+
+pub map-map : {A B C : Type 0} (f : B → C) (g : A → B) (l : List A) → map f (map g l) ≡ map (λ (x : A). f (g x)) l
+map-map f g [] = refl
+map-map {C = C} f g (x ∷ l) = ap (λ (r : List C). f (g x) ∷ r) (map-map f g l)

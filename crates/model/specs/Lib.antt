@@ -1,0 +1,6 @@
+pub mod Value
+pub mod View
+pub mod Run
+pub mod Rows
+pub mod Answer
+pub mod Change

@@ -1,0 +1,56 @@
+use denote.Ref.{now}
+use mathlib.Core.Path.{ap, _∙_}
+use Rattle.values.specs.Locate.{gotOf}
+use Rattle.values.proofs.Meaning.{value-got, value-inside}
+use Rattle.reading.proofs.Ways.{no-copy, a-copy}
+use native.Mathlib.Omega.{arith}
+use borrow.Author.Needs.{needs}
+use Rattle.reading.proofs.inner.copy_value.Statement.{statement}
+use Rattle.reading.proofs.inner.copy_value.Tie as tie
+
+locate-value-requires : tie.Need-locate-value-requires
+locate-value-requires c κs = (c .before .before .before .pre .0, c .before .before .before .pre .1 .table)
+
+enum-known-code : tie.Need-enum-known-code
+enum-known-code c = search needs
+
+enum-known-s : tie.Need-enum-known-s
+enum-known-s c = search needs
+
+least-requires : tie.Need-least-requires
+least-requires c κs = search needs
+
+new-requires : tie.Need-new-requires
+new-requires c κs = search needs
+
+append-span-requires : tie.Need-append-span-requires
+append-span-requires c κs =
+    let a = c .before .before .before .before .before .before .before .before .before .before .args in
+    let i = rw (← c .before .before .before .before .before .before .locate-value .ensures) at (value-inside (now (a .store)) (now (a .table)) (c .before .before .before .before .before .before .before .before .before .before .pre .1 .table) (now (a .list)) (c .before .before .before .before .before .before .before .before .before .before .pre .1 .right) (a .i) (c .before .before .before .before .before .before .before .before .before .before .pre .0)) in
+    (omega (arith, c .before .before .least .ensures, c .before .new .ensures .0), rw (c .before .before .before .before .s .given .1) at i)
+
+returns : tie.Need-returns
+returns c = no-copy _ _ _ _ _ (ap (gotOf _ _) (c .before .before .before .locate-value .ensures) ∙ value-got _ _ _) _ (c .before .code .given .1)
+
+same-length : tie.Need-same-length
+same-length c = search needs
+
+returns-2 : tie.Need-returns-2
+returns-2 c =
+    let a = c .before .before .before .before .before .before .before .before .before .before .before .before .before .args in
+    let i = rw (← c .before .before .before .before .before .before .before .before .before .locate-value .ensures) at (value-inside (now (a .store)) (now (a .table)) (c .before .before .before .before .before .before .before .before .before .before .before .before .before .pre .1 .table) (now (a .list)) (c .before .before .before .before .before .before .before .before .before .before .before .before .before .pre .1 .right) (a .i) (c .before .before .before .before .before .before .before .before .before .before .before .before .before .pre .0)) in
+    a-copy _ _ _ _ _ (ap (gotOf _ _) (c .before .before .before .before .before .before .before .before .before .locate-value .ensures) ∙ value-got _ _ _) _ _ _ _ _ (c .before .before .before .before .before .before .before .s .given .1) i (c .before .before .before .before .before .least .ensures) (c .before .before .before .before .new .ensures .0) (c .before .before .append-span .ensures)
+
+pub copy-value-spec : {M : Type 1} → statement M
+copy-value-spec =
+    tie.close
+    (tie.spec
+    locate-value-requires
+    enum-known-code
+    enum-known-s
+    least-requires
+    new-requires
+    append-span-requires
+    returns
+    same-length
+    returns-2)

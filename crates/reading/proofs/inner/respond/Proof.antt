@@ -1,0 +1,81 @@
+use Rattle.reading.proofs.Ways.{by-code, in-bytes, past-end, value-part}
+use Rattle.response.proofs.Errors.{one-byte}
+use Rattle.model.proofs.Sending.{sent, sent-as}
+use Rattle.wire.proofs.Written.{wrote-then, wrote-length}
+use Rattle.wire.specs.declared.cursor.WriteCursor.{WriteCursor}
+use mathlib.Core.Path.{ap}
+use native.Mathlib.Omega.{arith}
+use borrow.Author.Needs.{needs}
+use Rattle.reading.proofs.inner.respond.Statement.{statement}
+use Rattle.reading.proofs.inner.respond.Tie as tie
+
+enum-known-v : tie.Need-enum-known-v
+enum-known-v c = search needs
+
+error-response-requires : tie.Need-error-response-requires
+error-response-requires c κs = search needs
+
+enum-known-v-2 : tie.Need-enum-known-v-2
+enum-known-v-2 c = search needs
+
+error-response-requires-2 : tie.Need-error-response-requires-2
+error-response-requires-2 c κs = search needs
+
+same-length : tie.Need-same-length
+same-length c = search needs
+
+returns : tie.Need-returns
+returns c = sent-as _ _ _ _ _ (c .before .before .error-response2 .ensures) (past-end _ _ _ _ (c .before .before .before .before .before .before .v2 .given .1) (c .before .before .before .before .before .before .before .before .before .before .before .pre .1) _ _ _ _ _ (c .before .before .before .before .if1 .taken))
+
+sub-least : tie.Need-sub-least
+sub-least c = search needs
+
+least-requires : tie.Need-least-requires
+least-requires c κs = search needs
+
+new-requires : tie.Need-new-requires
+new-requires c κs = search needs
+
+byte-requires : tie.Need-byte-requires
+byte-requires c κs = search needs
+
+append-span-requires : tie.Need-append-span-requires
+append-span-requires c κs =
+    let w = one-byte _ _ _ _ _ (c .before .before .before .before .before .new .ensures .0) (omega (arith, c .before .before .before .before .before .before .before .before .before .before .before .before .before .before .pre .0)) (c .before .before .before .byte .ensures .0) (c .before .before .before .byte .ensures .1) in
+    let n = ap (λ (x : WriteCursor). x .len) (w .cursor) in
+    (omega (arith, n, c .before .before .before .before .before .new .ensures .0, wrote-length _ _ _ _ _ w, c .before .before .before .before .before .before .least .ensures, c .before .before .before .before .before .before .before .if1 .left, c .before .before .before .before .before .before .before .before .before .before .before .before .before .before .pre .0), in-bytes _ _ _ _ (c .before .before .before .before .before .before .before .before .before .v2 .given .1) (c .before .before .before .before .before .before .before .before .before .before .before .before .before .before .pre .1))
+
+same-length-2 : tie.Need-same-length-2
+same-length-2 c = search needs
+
+returns-2 : tie.Need-returns-2
+returns-2 c = sent-as _ _ _ _ _ (c .before .before .error-response .ensures) (by-code _ _ _ _ _ _ _ _ _ (c .before .before .before .before .before .v .given .1))
+
+same-length-3 : tie.Need-same-length-3
+same-length-3 c = search needs
+
+returns-3 : tie.Need-returns-3
+returns-3 c =
+    let w = one-byte _ _ _ _ _ (c .before .before .before .before .before .before .before .before .new .ensures .0) (omega (arith, c .before .before .before .before .before .before .before .before .before .before .before .before .before .before .before .before .before .pre .0)) (c .before .before .before .before .before .before .byte .ensures .0) (c .before .before .before .before .before .before .byte .ensures .1) in
+    sent-as _ _ _ _ _ (sent _ _ _ _ _ (c .before .before .before .before .before .before .before .before .new .ensures .0) (wrote-then _ _ _ _ _ _ _ _ w (c .before .before .append-span .ensures)))
+    (value-part _ _ _ _ (c .before .before .before .before .before .before .before .before .before .before .before .before .v2 .given .1) (c .before .before .before .before .before .before .before .before .before .before .before .before .before .before .before .before .before .pre .1) _ _ _ _ _ _ (c .before .before .before .before .before .before .before .before .before .before .if1 .left) (c .before .before .before .before .before .before .before .before .before .least .ensures))
+
+pub respond-spec : {M : Type 1} → statement M
+respond-spec =
+    tie.close
+    (tie.spec
+    enum-known-v
+    error-response-requires
+    enum-known-v-2
+    error-response-requires-2
+    same-length
+    returns
+    sub-least
+    least-requires
+    new-requires
+    byte-requires
+    append-span-requires
+    same-length-2
+    returns-2
+    same-length-3
+    returns-3)

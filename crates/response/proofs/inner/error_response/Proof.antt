@@ -1,0 +1,38 @@
+use native.Mathlib.Omega.{arith}
+use Rattle.response.proofs.Errors.{error}
+use borrow.Author.Needs.{needs}
+use Rattle.response.proofs.inner.error_response.Statement.{statement}
+use Rattle.response.proofs.inner.error_response.Tie as tie
+
+new-requires : tie.Need-new-requires
+new-requires c κs = search needs
+
+byte-requires : tie.Need-byte-requires
+byte-requires c κs = search needs
+
+byte-requires-2 : tie.Need-byte-requires-2
+byte-requires-2 c κs = search needs
+
+word-requires : tie.Need-word-requires
+word-requires c κs = search needs
+
+byte-requires-3 : tie.Need-byte-requires-3
+byte-requires-3 c κs = search needs
+
+same-length : tie.Need-same-length
+same-length c = search needs
+
+returns : tie.Need-returns
+returns c = error _ _ _ _ _ _ _ _ _ _ _ _ _ (omega (arith, c .before .before .before .before .before .before .before .before .before .before .before .before .before .before .before .before .before .before .pre)) (c .before .before .before .before .before .before .before .before .before .before .before .before .before .before .before .before .new .ensures .0) (c .before .before .before .before .before .before .before .before .before .before .before .before .before .before .byte .ensures .0) (c .before .before .before .before .before .before .before .before .before .before .before .before .before .before .byte .ensures .1) (c .before .before .before .before .before .before .before .before .before .before .byte2 .ensures .0) (c .before .before .before .before .before .before .before .before .before .before .byte2 .ensures .1) (c .before .before .before .before .before .before .word .ensures .0) (c .before .before .before .before .before .before .word .ensures .1) (c .before .before .byte3 .ensures .0) (c .before .before .byte3 .ensures .1)
+
+pub error-response-spec : {M : Type 1} → statement M
+error-response-spec =
+    tie.close
+    (tie.spec
+    new-requires
+    byte-requires
+    byte-requires-2
+    word-requires
+    byte-requires-3
+    same-length
+    returns)

@@ -1,0 +1,4 @@
+pub mod Putting
+pub mod Owning
+pub mod Writing
+pub mod Valid

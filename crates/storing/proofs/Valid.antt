@@ -1,0 +1,195 @@
+-- Valid in, valid out: a write keeps a valid state valid. A shared value's length stays within its capacity, and a client
+-- value's table keeps its header, its index and the zeros after its end. Assumes nothing.
+use mathlib.Core.Path.{_≡_, refl, sym, _∙_}
+use mathlib.Core.Bool.{Bool, true, false, cond}
+use mathlib.Core.List.{List, [], _∷_}
+use Prim.Native.Nat.{ℕ, zero, suc, _+_, _≤_, _<_}
+use native.Mathlib.Omega.{arith}
+use lib.ListN.{length, getD, take, drop, set, length-set, length-take}
+use lib.Seq.{sets, length-sets, ext-getD, getD-take, getD-set-same, getD-set-other}
+use borrow.Author.Tests.{eq-eqb, eqb-true, le-leb}
+use Rattle.wire.specs.Bytes.{zeros, alike}
+use Rattle.wire.specs.declared.Found.{Found}
+use Rattle.wire.specs.declared.Found.the-variants.{At, Nothing}
+use Rattle.wire.proofs.Tests.{both-l, both-r, both-true}
+use Rattle.wire.proofs.Fold.{zeros-from, from-zeros, alike-eq}
+use Rattle.wire.proofs.Walk.{placed}
+use Rattle.table_view.specs.Layout.{baseOf, endOf}
+use Rattle.table_view.specs.Rules.{accepts}
+use Rattle.table_view.proofs.Shape.{fits}
+use Rattle.table_view.proofs.Same.{SameIndex, count-same, end-same}
+use Rattle.client_att_table.specs.Write.{afterWrite}
+use Rattle.client_att_table.specs.AsList.{write, bytesAfter}
+use Rattle.client_att_table.proofs.Frame.{Kept}
+use Rattle.client_att_table.proofs.AsList.{call-kept}
+use Rattle.attribute.specs.Record.{attributeOf, withLength}
+use Rattle.attribute.specs.Lookup.{placeOf}
+use Rattle.attribute.specs.Needs.{mayWrite}
+use Rattle.attribute.specs.declared.Attribute.{Attribute}
+use Rattle.attribute.specs.declared.Access.{Access}
+use Rattle.attribute.specs.declared.Access.the-variants.{Granted, Denied}
+use Rattle.attribute.specs.declared.Link.{Link}
+use Rattle.attribute.proofs.Kept.{Holds, fields-kept, variable-holds, length-kept}
+use Rattle.peers.specs.Identity.{sameId, isEmpty, isBad}
+use Rattle.peers.specs.Slots.{matches, slotOf, noSlot}
+use Rattle.peers.specs.declared.Identity.{Identity}
+use Rattle.peers.specs.declared.Slot.{Slot}
+use Rattle.peers.proofs.Changes.{OnlyAt}
+use Rattle.state.specs.Fresh.{clientsOf, freshTable, spaceOf, entriesSize}
+use Rattle.state.specs.Valid.{laidOut, slotsOk, valid}
+use Rattle.state.proofs.Answers.{fresh-length, fresh-builder}
+use Rattle.state.proofs.Testing.{same-index}
+use Rattle.state.proofs.Each.{slots-count, slot-changed}
+use Rattle.state.proofs.Keeping.{somebody, laid-accepts, eight-tables, right-list, table-fits, right-slots, laid-at}
+use Rattle.state.proofs.Calls.{good-somebody}
+use Rattle.model.specs.Value.{writeRule}
+use Rattle.model.specs.Change.{Lent, ifGranted, lengthPut, sharedList, sharedStore, ownTables, putAt, writtenAt, written}
+use Rattle.storing.proofs.Putting.{has-room}
+use Rattle.storing.proofs.Writing.{listed}
+
+-- a list with another present length of one entry lays out the same table
+module _ (n : ℕ) where
+  clients-same : (list : List (List ℕ)) (i : ℕ) → length (getD list i []) ≡ 32 → clientsOf (set list i (withLength (getD list i []) n)) ≡ clientsOf list
+  unfolding clientsOf
+  clients-same [] i l = refl
+  clients-same (r ∷ rs) zero l = rw (fields-kept r n l)
+  clients-same (r ∷ rs) (suc i) l = rw (clients-same rs i l)
+
+  size-same : (list : List (List ℕ)) (i : ℕ) → length (getD list i []) ≡ 32 → entriesSize (set list i (withLength (getD list i []) n)) ≡ entriesSize list
+  unfolding entriesSize spaceOf
+  size-same [] i l = refl
+  size-same (r ∷ rs) zero l = rw (fields-kept r n l)
+  size-same (r ∷ rs) (suc i) l = rw (size-same rs i l)
+
+  fresh-same : (list : List (List ℕ)) (i : ℕ) → length (getD list i []) ≡ 32 → freshTable (set list i (withLength (getD list i []) n)) ≡ freshTable list
+  unfolding freshTable
+  fresh-same list i l = rw (clients-same list i l)
+
+-- a table that is laid out as the list's stays so where it is kept
+module _ (list : List (List ℕ)) (t : List ℕ) (lt : length t ≡ 640) (l : laidOut (freshTable list) t ≡ true) (out : List ℕ) (k : Kept t out) where
+  abbrev fresh : List ℕ
+  fresh = freshTable list
+
+  head : alike (take (baseOf fresh) t) (take (baseOf fresh) fresh) ≡ true
+  unfolding laidOut
+  head = both-l _ _ l
+
+  tail-zero : zeros (drop (endOf fresh) t) ≡ true
+  unfolding laidOut
+  tail-zero = both-r _ _ (both-r _ _ l)
+
+  index : SameIndex fresh t
+  index = same-index fresh t noSlot (fresh-length list) lt (fresh-builder list) head
+
+  head-same : take (baseOf fresh) out ≡ take (baseOf fresh) t
+  head-same =
+      let c = count-same fresh t index in
+      let f = fits t (laid-accepts fresh t l) in
+      let n : length (take (baseOf fresh) out) ≡ baseOf fresh = simp length-take (omega (arith, k .len)) in
+      let m : length (take (baseOf fresh) t) ≡ baseOf fresh = simp length-take (omega arith) in
+      ext-getD 0 _ _ (n ∙ sym m)
+      (λ j h.
+      let b : j < baseOf fresh = omega arith in
+      rw (getD-take (baseOf fresh) out j 0 b, getD-take (baseOf fresh) t j 0 b) (k .index j (omega arith)))
+
+  past-zero : (j : ℕ) → endOf fresh ≤ j → getD out j 0 ≡ 0
+  past-zero j h = let e = end-same fresh t index in k .past j (omega arith) ∙ from-zeros t (endOf fresh) tail-zero j h
+
+  kept-laid : laidOut (freshTable list) out ≡ true
+  unfolding laidOut
+  kept-laid = both-true _ _ (rw head-same head) (both-true _ _ (k .ok) (zeros-from out (endOf fresh) past-zero))
+
+-- whoever has the same identity is empty too
+same-empty : (a b : Identity) → sameId a b ≡ true → isEmpty a ≡ isEmpty b
+unfolding sameId isEmpty
+same-empty a b h = rw (eqb-true (a .kind) (b .kind) (both-l _ _ h), alike-eq (a .addr) (b .addr) (both-r _ _ h))
+
+table-set : (i : ℕ) (row : List Slot) (ts : List (List ℕ)) (t : List ℕ) → OnlyAt i row row ts (set ts i t)
+table-set i row ts t =
+    record { slots = refl; tables = length-set ts i t; slot = λ j o. refl; table = λ j o. getD-set-other ts i j t [] o }
+
+table-kept : (t : List ℕ) → accepts t ≡ true → (h off : ℕ) (d : List ℕ) → Kept t (afterWrite t h off d)
+unfolding bytesAfter
+table-kept t ok h off d = call-kept t ok (write h off d)
+
+module _ (list : List (List ℕ)) (store : ℕ) (row : List Slot) (ts : List (List ℕ)) (v : valid list store row ts ≡ true) where
+  with-tables : (ts′ : List (List ℕ)) → length ts′ ≡ length ts → slotsOk (freshTable list) row ts′ ≡ true → valid list store row ts′ ≡ true
+  unfolding valid
+  with-tables ts′ n h =
+      both-true _ _ (eq-eqb _ _ (n ∙ eight-tables list store row ts v))
+      (both-true _ _ (right-list list store row ts v) (both-true _ _ (le-leb _ _ (table-fits list store row ts v)) h))
+
+  -- another present length of an entry
+  resized-valid : (i n : ℕ) → length (getD list i []) ≡ 32 → Holds (attributeOf (getD list i [])) n → valid (set list i (withLength (getD list i []) n)) store row ts ≡ true
+  unfolding valid
+  resized-valid i n l f =
+      both-true _ _ (both-l _ _ v)
+      (both-true _ _ (length-kept list store (right-list list store row ts v) i n l f)
+      (rw (size-same n list i l, fresh-same n list i l) (both-r _ _ (both-r _ _ v))))
+
+  put-length-valid : (i n : ℕ) → length (getD list i []) ≡ 32 → n ≤ attributeOf (getD list i []) .cap → valid (lengthPut list i n) store row ts ≡ true
+  unfolding lengthPut
+  put-length-valid i n l h = by (attributeOf (getD list i []) .variable) refl
+    where
+      by : (t : Bool) → attributeOf (getD list i []) .variable ≡ t → valid (cond t (set list i (withLength (getD list i []) n)) list) store row ts ≡ true
+      by true e = resized-valid i n l (variable-holds (attributeOf (getD list i [])) n e h)
+      by false e = v
+
+  shared-valid : (i off n : ℕ) → length (getD list i []) ≡ 32 → valid (sharedList list i (attributeOf (getD list i [])) off n) store row ts ≡ true
+  unfolding sharedList
+  shared-valid i off n l = by (writeRule (attributeOf (getD list i []) .len) (attributeOf (getD list i []) .cap) off n) refl
+    where
+      by : (r : Access) → writeRule (attributeOf (getD list i []) .len) (attributeOf (getD list i []) .cap) off n ≡ r → valid (ifGranted r (lengthPut list i (off + n)) list) store row ts ≡ true
+      by Granted e = put-length-valid i (off + n) l (has-room _ _ _ _ e)
+      by (Denied c) e = v
+
+  -- another table of a slot that is somebody's
+  own-valid : (who : Identity) → isBad who ≡ false → ((k : ℕ) → k < 8 → length (getD ts k []) ≡ 640) → (h off : ℕ) (d : List ℕ) (f : Found) → slotOf row who ≡ f → valid list store row (ownTables ts f h off d) ≡ true
+  unfolding ownTables
+  own-valid who good sized h off d Nothing e = v
+  own-valid who good sized h off d (At k) e =
+      let fresh = freshTable list in
+      let w = placed (matches who) noSlot row 0 k e in
+      let n = slots-count fresh row ts (right-slots list store row ts v) in
+      let m = eight-tables list store row ts v in
+      let t = getD ts k [] in
+      let laid = laid-at list store row ts v k (omega (arith, w .inside)) in
+      let kept = table-kept t (laid-accepts fresh t laid) h off d in
+      let here = somebody fresh (getD row k noSlot) (afterWrite t h off d) (kept-laid list t (sized k (omega (arith, w .inside))) laid (afterWrite t h off d) kept) (same-empty (getD row k noSlot .id) who (w .passes) ∙ good-somebody who good) in
+      with-tables (set ts k (afterWrite t h off d)) (length-set ts k (afterWrite t h off d))
+      (slot-changed fresh k row row ts (set ts k (afterWrite t h off d)) (table-set k row ts (afterWrite t h off d)) (right-slots list store row ts v)
+      (rw (getD-set-same ts k (afterWrite t h off d) [] (omega (arith, w .inside))) here))
+
+store-length : (store : List ℕ) (a : Attribute) (off : ℕ) (d : List ℕ) → length (sharedStore store a off d) ≡ length store
+unfolding sharedStore
+store-length store a off d = by (writeRule (a .len) (a .cap) off (length d))
+  where
+    by : (r : Access) → length (ifGranted r (sets store (a .start + off) d) store) ≡ length store
+    by Granted = length-sets store (a .start + off) d
+    by (Denied c) = refl
+
+-- a write by place and by handle
+module _ (s : Lent) (row : List Slot) (who : Identity) (v : valid (s .list) (length (s .store)) row (s .tables) ≡ true) (good : isBad who ≡ false)
+    (records : (i : ℕ) → i < length (s .list) → length (getD (s .list) i []) ≡ 32) (sized : (i : ℕ) → i < 8 → length (getD (s .tables) i []) ≡ 640) where
+  pub put-valid : (i : ℕ) → i < length (s .list) → (off : ℕ) (d : List ℕ)
+      → valid (putAt s (slotOf row who) i off d .list) (length (putAt s (slotOf row who) i off d .store)) row (putAt s (slotOf row who) i off d .tables) ≡ true
+  unfolding putAt
+  put-valid i l off d = by (attributeOf (getD (s .list) i []) .client)
+    where
+      by : (t : Bool) → valid (cond t (s .list) (sharedList (s .list) i (attributeOf (getD (s .list) i [])) off (length d))) (length (cond t (s .store) (sharedStore (s .store) (attributeOf (getD (s .list) i [])) off d))) row (cond t (ownTables (s .tables) (slotOf row who) (attributeOf (getD (s .list) i []) .handle) off d) (s .tables)) ≡ true
+      by true = own-valid (s .list) (length (s .store)) row (s .tables) v who good sized (attributeOf (getD (s .list) i []) .handle) off d (slotOf row who) refl
+      by false =
+          rw (store-length (s .store) (attributeOf (getD (s .list) i [])) off d)
+          (shared-valid (s .list) (length (s .store)) row (s .tables) v i off (length d) (records i l))
+
+  pub written-valid : (link : Link) (h off : ℕ) (d : List ℕ)
+      → valid (written link s (slotOf row who) h off d .list) (length (written link s (slotOf row who) h off d .store)) row (written link s (slotOf row who) h off d .tables) ≡ true
+  written-valid link h off d = by (placeOf (s .list) h) refl
+    where
+      met : (i : ℕ) → i < length (s .list) → (r : Access) → valid (ifGranted r (putAt s (slotOf row who) i off d) s .list) (length (ifGranted r (putAt s (slotOf row who) i off d) s .store)) row (ifGranted r (putAt s (slotOf row who) i off d) s .tables) ≡ true
+      met i l Granted = put-valid i l off d
+      met i l (Denied c) = v
+
+      by : (f : Found) → placeOf (s .list) h ≡ f → valid (writtenAt link s (slotOf row who) f off d .list) (length (writtenAt link s (slotOf row who) f off d .store)) row (writtenAt link s (slotOf row who) f off d .tables) ≡ true
+      by Nothing e = v
+      by (At i) e = met i (listed (s .list) h i e) (mayWrite (attributeOf (getD (s .list) i [])) link)

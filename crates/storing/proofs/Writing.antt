@@ -1,0 +1,86 @@
+-- Laws of a write by place and by handle: the answer that the link's view gives, and what stands after it. Assumes nothing.
+use mathlib.Core.Path.{_≡_, refl, sym, _∙_}
+use mathlib.Core.Bool.{Bool, true, false, cond}
+use mathlib.Core.List.{List, []}
+use Prim.Native.Nat.{ℕ, _+_, _≤_, _<_}
+use native.Mathlib.Omega.{arith}
+use lib.ListN.{length, getD, take, drop, length-drop}
+use lib.Seq.{length-take-le}
+use Rattle.wire.specs.declared.Found.{Found}
+use Rattle.wire.specs.declared.Found.the-variants.{At, Nothing}
+use Rattle.wire.proofs.Walk.{placed}
+use Rattle.attribute.specs.Record.{attributeOf}
+use Rattle.attribute.specs.Lookup.{placeOf, hasHandle}
+use Rattle.attribute.specs.Needs.{mayWrite}
+use Rattle.attribute.specs.Rules.{listOk}
+use Rattle.attribute.specs.declared.Attribute.{Attribute}
+use Rattle.attribute.specs.declared.Link.{Link}
+use Rattle.attribute.specs.declared.Access.{Access}
+use Rattle.attribute.specs.declared.Access.the-variants.{Granted, Denied}
+use Rattle.attribute.proofs.Shape.{shared}
+use Rattle.model.specs.Value.{sharedItem, atValue, ownWrite, writeOf}
+use Rattle.model.specs.View.{Seen, seenBy, seenAll, tableAt, writeAt}
+use Rattle.model.specs.Change.{lent, Left, ownTables, putAt, written}
+use Rattle.model.proofs.Looking.{seen-at, seen-nowhere}
+use Rattle.storing.proofs.Putting.{Put}
+
+-- a shared value has as many bytes as its entry says
+shared-length : (store : List ℕ) (a : Attribute) → a .start + a .cap ≤ length store → a .len ≤ a .cap → length (take (a .len) (drop (a .start) store)) ≡ a .len
+shared-length store a h k = length-take-le (a .len) (drop (a .start) store) (rw (length-drop (a .start) store) (omega arith))
+
+second : {A : Type 0} (t : Bool) (x y : A) → t ≡ false → y ≡ cond t x y
+second t x y e = rw e
+
+-- by place
+module _ (list : List (List ℕ)) (store : List ℕ) (ts : List (List ℕ)) (slot : Found) (i off : ℕ) (d : List ℕ) (a : Attribute) (is : a ≡ attributeOf (getD list i [])) where
+  pub own-put : a .client ≡ true → (r : Access) (ts′ : List (List ℕ)) → r ≡ ownWrite (tableAt ts slot) (a .handle) off (length d) → ts′ ≡ ownTables ts slot (a .handle) off d
+      → (r ≡ writeOf store (tableAt ts slot) (attributeOf (getD list i [])) off (length d)) × Left (putAt (lent list store ts) slot i off d) list store ts′
+  unfolding writeOf atValue putAt
+  own-put t r ts′ p q =
+      let u = rw is at t in
+      let v = rw is at p in
+      let w = rw is at q in
+      rw u (v, record { list-is = refl; store-is = refl; tables-are = w })
+
+  pub shared-put : i < length list → listOk list (length store) ≡ true → a .client ≡ false → (r : Access) (list′ : List (List ℕ)) (store′ : List ℕ)
+      → Put list store i off d r list′ store′
+      → (r ≡ writeOf store (tableAt ts slot) (attributeOf (getD list i [])) off (length d)) × Left (putAt (lent list store ts) slot i off d) list′ store′ ts
+  unfolding writeOf atValue sharedItem putAt
+  shared-put l ok t r list′ store′ p =
+      let u = rw is at t in
+      let g = shared list (length store) ok i l u in
+      let m = shared-length store (attributeOf (getD list i [])) (g .inside) (g .len) in (
+        p .0 ∙ rw (u, m),
+        record {
+          list-is = p .1 ∙ second (attributeOf (getD list i []) .client) _ _ u;
+          store-is = p .2 ∙ second (attributeOf (getD list i []) .client) _ _ u;
+          tables-are = second (attributeOf (getD list i []) .client) _ _ u;
+        },
+      )
+
+-- by handle: a place that is found is one of the list
+pub listed : (list : List (List ℕ)) (h i : ℕ) → placeOf list h ≡ At i → i < length list
+listed list h i e = placed (hasHandle h) [] list 0 i e .inside
+
+module _ (link : Link) (list : List (List ℕ)) (store : List ℕ) (ts : List (List ℕ)) (slot : Found) (h off : ℕ) (d : List ℕ) where
+  pub not-listed : placeOf list h ≡ Nothing
+      → (Denied 0x0A ≡ writeAt h off (length d) (seenAll link list store (tableAt ts slot))) × Left (written link (lent list store ts) slot h off d) list store ts
+  unfolding writeAt
+  not-listed e =
+      (sym (seen-nowhere link list store (tableAt ts slot) h (λ (s : Seen). s .write off (length d)) (Denied 0x0A) e), rw e (record { list-is = refl; store-is = refl; tables-are = refl }))
+
+  module _ (i : ℕ) (e : placeOf list h ≡ At i) where
+    at-place : writeAt h off (length d) (seenAll link list store (tableAt ts slot)) ≡ seenBy link store (tableAt ts slot) (getD list i []) .write off (length d)
+    unfolding writeAt
+    at-place = seen-at link list store (tableAt ts slot) h (λ (s : Seen). s .write off (length d)) (Denied 0x0A) i e
+
+    pub not-met : (c : ℕ) → mayWrite (attributeOf (getD list i [])) link ≡ Denied c
+        → (Denied c ≡ writeAt h off (length d) (seenAll link list store (tableAt ts slot))) × Left (written link (lent list store ts) slot h off d) list store ts
+    unfolding seenBy
+    not-met c m = (sym (at-place ∙ rw m), rw (e, m) (record { list-is = refl; store-is = refl; tables-are = refl }))
+
+    pub met : mayWrite (attributeOf (getD list i [])) link ≡ Granted → (r : Access) (list′ : List (List ℕ)) (store′ : List ℕ) (ts′ : List (List ℕ))
+        → (r ≡ writeOf store (tableAt ts slot) (attributeOf (getD list i [])) off (length d)) × Left (putAt (lent list store ts) slot i off d) list′ store′ ts′
+        → (r ≡ writeAt h off (length d) (seenAll link list store (tableAt ts slot))) × Left (written link (lent list store ts) slot h off d) list′ store′ ts′
+    unfolding seenBy
+    met m r list′ store′ ts′ p = (p .0 ∙ sym (at-place ∙ rw m), rw (e, m) (p .1))

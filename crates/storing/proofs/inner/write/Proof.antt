@@ -1,0 +1,109 @@
+-- `storing::inner::write` meets its contract. A law for each answer; a place that is found is one of the list. Assumes nothing.
+use mathlib.Core.List.{[]}
+use mathlib.Core.Path.{_≡_, sym, _∙_, ap}
+use Prim.Native.Nat.{_<_}
+use native.Mathlib.Omega.{arith}
+use lib.ListN.{length, getD}
+use borrow.Author.Needs.{needs}
+use Rattle.wire.specs.declared.Found.the-variants.{At}
+use Rattle.attribute.specs.Record.{attributeOf}
+use Rattle.attribute.specs.Lookup.{placeOf}
+use Rattle.attribute.specs.Needs.{mayWrite}
+use Rattle.attribute.specs.declared.Attribute.{Attribute}
+use Rattle.storing.proofs.Writing.{not-listed, listed, not-met, met}
+use denote.Ref.{now}
+use Rattle.storing.proofs.inner.write.Statement.{statement}
+use Rattle.storing.proofs.inner.write.Tie as tie
+
+at : (c : tie.After-i) → placeOf (now (c .before .before .before .before .before .before .args .list)) (c .before .before .before .before .before .before .args .handle) ≡ At (c .i .given .0 .0)
+at c = sym (c .before .before .find-handle .ensures) ∙ c .i .given .1
+
+inside : (c : tie.After-i) → c .i .given .0 .0 < length (now (c .before .before .before .before .before .before .args .list))
+inside c = listed _ _ _ (at c)
+
+told : (c : tie.After-may-write) → mayWrite (attributeOf (getD (now (c .before .before .before .before .before .before .before .before .before .before .args .list)) (c .before .before .before .before .i .given .0 .0) [])) (c .before .before .before .before .before .before .before .before .before .before .args .link) ≡ c .may-write .result
+told c = ap (λ (a : Attribute). mayWrite a (c .before .before .before .before .before .before .before .before .before .before .args .link)) (sym (c .before .decode .ensures)) ∙ sym (c .may-write .ensures)
+
+find-handle-requires : tie.Need-find-handle-requires
+find-handle-requires c κs = search needs
+
+enum-known-i : tie.Need-enum-known-i
+enum-known-i c = search needs
+
+enum-told : tie.Need-enum-told
+enum-told c = search needs
+
+same-length : tie.Need-same-length
+same-length c = search needs
+
+returns : tie.Need-returns
+returns c =
+    let a = c .before .before .before .before .before .before .args in
+    not-listed (a .link) (a .list .now) (a .store .now) (a .tables .now) _ _ _ (a .d .now) (sym (c .before .before .find-handle .ensures) ∙ c .enum-told .given .1)
+
+mul-decode : tie.Need-mul-decode
+mul-decode c = omega (arith, inside (c .before))
+
+index-1-decode : tie.Need-index-1-decode
+index-1-decode c = inside (c .before)
+
+decode-requires : tie.Need-decode-requires
+decode-requires c κs = search needs
+
+may-write-requires : tie.Need-may-write-requires
+may-write-requires c κs = search needs
+
+enum-known-code : tie.Need-enum-known-code
+enum-known-code c = search needs
+
+same-length-2 : tie.Need-same-length-2
+same-length-2 c = search needs
+
+returns-2 : tie.Need-returns-2
+returns-2 c =
+    let a = c .before .before .before .before .before .before .before .before .before .before .before .before .before .args in
+    not-met (a .link) (a .list .now) (a .store .now) (a .tables .now) _ _ _ (a .d .now) _ (at (c .before .before .before .before .before .before .before)) _ (told (c .before .before .before) ∙ c .before .code .given .1)
+
+enum-told-2 : tie.Need-enum-told-2
+enum-told-2 c = search needs
+
+put-at-requires : tie.Need-put-at-requires
+put-at-requires c κs = (inside (c .before .before .before .before .before .before .before .before .before), c .before .before .before .before .before .before .before .before .before .before .before .before .before .before .before .pre)
+
+same-length-3 : tie.Need-same-length-3
+same-length-3 c = search needs
+
+same-length-4 : tie.Need-same-length-4
+same-length-4 c = search needs
+
+same-length-5 : tie.Need-same-length-5
+same-length-5 c = search needs
+
+returns-3 : tie.Need-returns-3
+returns-3 c =
+    let a = c .before .before .before .before .before .before .before .before .before .before .before .before .before .before .before .before .before .before .before .before .args in
+    met (a .link) (a .list .now) (a .store .now) (a .tables .now) _ _ _ (a .d .now) _ (at (c .before .before .before .before .before .before .before .before .before .before .before .before .before .before)) (told (c .before .before .before .before .before .before .before .before .before .before) ∙ c .before .before .before .before .before .before .before .before .enum-told2 .given .1) _ _ _ _
+    (c .before .before .before .before .put-at .ensures)
+
+pub write-spec : {M : Type 1} → statement M
+write-spec =
+    tie.close
+    (tie.spec
+    find-handle-requires
+    enum-known-i
+    enum-told
+    same-length
+    returns
+    mul-decode
+    index-1-decode
+    decode-requires
+    may-write-requires
+    enum-known-code
+    same-length-2
+    returns-2
+    enum-told-2
+    put-at-requires
+    same-length-3
+    same-length-4
+    same-length-5
+    returns-3)

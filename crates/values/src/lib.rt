@@ -1,0 +1,15 @@
+// Where a value lies, and copying it out: in the peer's own table, or in the store.
+pub mod inner;
+
+// A value's bytes.
+pub struct Span {
+    pub client: bool,
+    pub start: usize,
+    pub len: usize,
+}
+
+// A value, or the ATT code that stands for it.
+pub enum Located {
+    Here(Span),
+    Not(u8),
+}

@@ -1,0 +1,37 @@
+use Rattle.writing.proofs.Preparing.{echoed}
+use borrow.Author.Needs.{needs}
+use Rattle.writing.proofs.inner.echo.Statement.{statement}
+use Rattle.writing.proofs.inner.echo.Tie as tie
+
+new-requires : tie.Need-new-requires
+new-requires c κs = search needs
+
+byte-requires : tie.Need-byte-requires
+byte-requires c κs = search needs
+
+word-requires : tie.Need-word-requires
+word-requires c κs = search needs
+
+word-requires-2 : tie.Need-word-requires-2
+word-requires-2 c κs = search needs
+
+append-requires : tie.Need-append-requires
+append-requires c κs = search needs
+
+same-length : tie.Need-same-length
+same-length c = search needs
+
+returns : tie.Need-returns
+returns c = echoed _ _ _ _ _ _ _ _ _ _ _ _ _ (c .before .before .before .before .before .before .before .before .before .before .before .before .before .before .before .before .before .before .before .pre) (c .before .before .before .before .before .before .before .before .before .before .before .before .before .before .before .before .new .ensures .0) (c .before .before .before .before .before .before .before .before .before .before .before .before .before .before .byte .ensures .0) (c .before .before .before .before .before .before .before .before .before .before .before .before .before .before .byte .ensures .1) (c .before .before .before .before .before .before .before .before .before .before .word .ensures .0) (c .before .before .before .before .before .before .before .before .before .before .word .ensures .1) (c .before .before .before .before .before .before .word2 .ensures .0) (c .before .before .before .before .before .before .word2 .ensures .1) (c .before .before .append .ensures .0) (c .before .before .append .ensures .1)
+
+pub echo-spec : {M : Type 1} → statement M
+echo-spec =
+    tie.close
+    (tie.spec
+    new-requires
+    byte-requires
+    word-requires
+    word-requires-2
+    append-requires
+    same-length
+    returns)
