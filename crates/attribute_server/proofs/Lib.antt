@@ -1,1 +1,4 @@
-pub mod Peers
+pub mod Admitting
+pub mod Processing
+pub mod Unique
+pub mod Valid

@@ -1,1 +1,6 @@
-pub mod Peers
+pub mod Admission
+pub mod Connection
+pub mod Request
+pub mod Value
+pub mod Subscription
+pub mod Table

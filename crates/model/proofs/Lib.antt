@@ -1,3 +1,4 @@
 pub mod Running
 pub mod Sending
 pub mod Looking
+pub mod Telling

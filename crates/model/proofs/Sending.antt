@@ -1,20 +1,21 @@
 -- Laws of responses: from what the cursor wrote to what is sent, and the range test. Assumes nothing.
 use mathlib.Core.Path.{_≡_, refl, ap, _∙_}
 use mathlib.Core.Bool.{true, false}
-use mathlib.Core.List.{List, [], append-nil}
-use Prim.Native.Nat.{ℕ, _+_, _-_, _≤_, _<_}
+use mathlib.Core.List.{List, append-nil}
+use Prim.Native.Nat.{ℕ, _-_, _≤_}
 use native.Mathlib.Omega.{arith}
 use lib.Dec.{ltb}
 use lib.ListN.{length}
 use lib.Seq.{sets, length-sets, sets-eq, take-append-seam}
-use borrow.Author.Tests.{eq-eqb, ne-eqb, lt-ltb, le-ltb}
+use borrow.Author.Tests.{eq-eqb, ne-eqb}
 use Rattle.wire.specs.Cursor.{Wrote}
 use Rattle.wire.specs.declared.cursor.WriteCursor.{WriteCursor}
-use Rattle.model.specs.Answer.{Sent, Answered, front, errorRsp, isBadRange, inRange}
+use Rattle.model.specs.Answer.{Sent, errorRsp, isBadRange, inRange}
+use Rattle.model.specs.Told.{Answered, front}
 use Rattle.table_view.specs.Told.{Told, none, value}
 use Rattle.model.specs.declared.Range.{Range}
 use Rattle.model.specs.declared.Answer.{Answer}
-use Rattle.model.specs.declared.Answer.the-variants.{Silent, Response}
+use Rattle.model.specs.declared.Answer.the-variants.{Nothing, Value}
 
 pub sent : (old new rsp : List ℕ) (c next : WriteCursor) → c .len ≡ 0 → Wrote old new c next rsp → Sent old new (next .len) rsp
 sent old new rsp c next z w =
@@ -33,13 +34,13 @@ front-sets old rsp h =
     let l : length rsp - length (sets old 0 rsp) ≡ 0 = omega (arith, length-sets old 0 rsp) in
     rw (l, sets-eq rsp old 0 (omega arith)) (append-nil _ ∙ take-append-seam rsp _)
 
-pub answered : (old new : List ℕ) (n : ℕ) (rsp : List ℕ) → Sent old new n rsp → Answered old new (Response n) (value rsp)
+pub answered : (old new : List ℕ) (n : ℕ) (rsp : List ℕ) → Sent old new n rsp → Answered old new (Value n) (value rsp)
 answered old new n rsp s = record { told = rw (s .size, s .bytes) (ap value (front-sets old rsp (s .fits))); out = s .bytes }
 
 pub answered-as : (old new : List ℕ) (r : Answer) (t u : Told) → Answered old new r t → t ≡ u → Answered old new r u
 answered-as old new r t u h e = rw e at h
 
-pub silent : (old : List ℕ) → Answered old old Silent none
+pub silent : (old : List ℕ) → Answered old old Nothing none
 silent old = record { told = refl; out = refl }
 
 -- the range test

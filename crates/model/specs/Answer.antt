@@ -5,12 +5,12 @@ use mathlib.Core.Path.{_≡_}
 use mathlib.Core.Bool.{Bool, true, false, cond}
 use mathlib.Core.List.{List, [], _∷_, _++_}
 use lib.Dec.{ltb, eqb}
-use lib.ListN.{length, take, replicate}
+use lib.ListN.{length, take}
 use lib.Seq.{sets}
 use Rattle.wire.specs.Test.{both}
 use Rattle.wire.specs.Number.{word, wordBytes}
-use Rattle.table_view.specs.Told.{Told, done, none, value, refused, att}
-use Rattle.attribute.specs.Record.{Entry, entryOf}
+use Rattle.table_view.specs.Told.{Told, none, value}
+use Rattle.attribute.specs.Record.{Entry}
 use Rattle.attribute.specs.Lookup.{isWithin, isWanted}
 use Rattle.attribute.specs.declared.Access.{Access}
 use Rattle.attribute.specs.declared.Access.the-variants.{Granted, Denied}
@@ -22,8 +22,8 @@ use Rattle.model.specs.declared.Form.{Form}
 use Rattle.model.specs.declared.Range.{Range}
 use Rattle.model.specs.declared.Ask.{Ask}
 use Rattle.model.specs.declared.Ask.the-variants.{FindInformation, ReadByType, ReadByGroupType, Read, ReadBlob, ReadMultiple}
-use Rattle.model.specs.declared.Answer.{Answer}
-use Rattle.model.specs.declared.Answer.the-variants.{BadState, BadBuffer, BadPeer, Silent, Response}
+use Rattle.model.specs.declared.Request.{Request}
+use Rattle.model.specs.declared.Request.the-variants as request
 use Rattle.model.specs.declared.Change.{Change}
 use Rattle.model.specs.declared.Change.the-variants.{Write, WriteCommand, PrepareWrite, ExecuteWrite}
 
@@ -86,13 +86,13 @@ findRsp g uuid d room list store =
 unfoldable pub multipleRsp : List ℕ → List ℕ
 multipleRsp hs = cond (ltb (length hs) 2) (errorRsp 0x0E 0 0x04) (errorRsp 0x0E (word hs 0) 0x0A)
 
-unfoldable pub askRsp : View → ℕ → Ask → List ℕ → List ℕ
-askRsp v room (FindInformation g) d = infoRsp g room (entriesIn (v .attrs))
-askRsp v room (ReadByType g) d = listRsp byTypeForm g d room (v .attrs)
-askRsp v room (ReadByGroupType g) d = listRsp byGroupForm g d room (v .attrs)
-askRsp v room (Read h) d = valueRsp 0x0B 0x0A h room (readAt h (v .attrs))
-askRsp v room (ReadBlob h off) d = valueRsp 0x0D 0x0C h room (readFrom off (readAt h (v .attrs)))
-askRsp v room ReadMultiple d = multipleRsp d
+unfoldable pub askRsp : List Seen → ℕ → Ask → List ℕ → List ℕ
+askRsp l room (FindInformation g) d = infoRsp g room (entriesIn l)
+askRsp l room (ReadByType g) d = listRsp byTypeForm g d room l
+askRsp l room (ReadByGroupType g) d = listRsp byGroupForm g d room l
+askRsp l room (Read h) d = valueRsp 0x0B 0x0A h room (readAt h l)
+askRsp l room (ReadBlob h off) d = valueRsp 0x0D 0x0C h room (readFrom off (readAt h l))
+askRsp l room ReadMultiple d = multipleRsp d
 
 -- Prepare Write of n bytes, after len bytes for another handle and offset: handle 0; another handle than the pending one; not where the pending bytes
 -- end; over 512 bytes. A link without a prepared write takes any handle and offset
@@ -128,28 +128,13 @@ changeTold v (PrepareWrite h off) d =
     value (doneRsp (echoRsp h off d) 0x16 h (prepareAccess (v .pending) h off (length d)))
 changeTold v (ExecuteWrite flags) d = value (doneRsp (0x19 ∷ []) 0x18 0 (executeAccess v flags))
 
--- the numbers and values of an answer, with the buffer that it was given: what counts is what stands there, as many bytes as it reports
-abbrev pub front : ℕ → List ℕ → List ℕ
-front n out = take n out ++ replicate (n - length out) 0
-
-abbrev pub toldAnswer : List ℕ → Answer → Told
-toldAnswer out BadState = refused 1
-toldAnswer out BadBuffer = refused 2
-toldAnswer out BadPeer = refused 3
-toldAnswer out Silent = none
-toldAnswer out (Response n) = value (front n out)
-
--- the buffer afterwards: a response from its start on; every byte past it stays as lent
-abbrev pub laidOn : List ℕ → Told → List ℕ
-laidOn out (value rsp) = sets out 0 rsp
-laidOn out done = out
-laidOn out none = out
-laidOn out (refused n) = out
-laidOn out (att c) = out
-
-pub record Answered (old new : List ℕ) (r : Answer) (t : Told) : Type 0 where
-  pub told : toldAnswer new r ≡ t
-  pub out : new ≡ laidOn old t
+-- any request, with the bytes that it brings: an exchange of MTUs and a confirmation are never answered
+unfoldable pub requestTold : View → List (List ℕ) → List ℕ → ℕ → Request → List ℕ → Told
+requestTold v list store room (request.Ask a) d = value (askRsp (v .attrs) room a d)
+requestTold v list store room (request.FindByTypeValue g uuid) d = value (findRsp g uuid d room list store)
+requestTold v list store room (request.Change c) d = changeTold v c d
+requestTold v list store room (request.ExchangeMtu mtu) d = none
+requestTold v list store room request.Confirmation d = none
 
 -- what a handler that always answers promises of the buffer: it reports the response's length, which the buffer has, and the response stands there
 pub record Sent (old new : List ℕ) (n : ℕ) (rsp : List ℕ) : Type 0 where

@@ -1,7 +1,7 @@
 -- What the requests and `set` leave, in bytes (document 01, "Client table", "Attributes" and "Handlers"). Every byte that is not named stays. Assumes nothing.
 use Prim.Native.Nat.{ℕ, _+_}
 use mathlib.Core.Path.{_≡_}
-use mathlib.Core.Bool.{Bool, cond}
+use mathlib.Core.Bool.{cond}
 use mathlib.Core.List.{List, []}
 use lib.Dec.{eqb}
 use lib.ListN.{length, getD, set}
@@ -19,6 +19,8 @@ use Rattle.state.specs.declared.Prepared.{Prepared}
 use Rattle.model.specs.Value.{writeRule}
 use Rattle.model.specs.View.{Pending, ifMet}
 use Rattle.model.specs.Answer.{prepareRule, isDue}
+use Rattle.model.specs.declared.Request.{Request}
+use Rattle.model.specs.declared.Request.the-variants as request
 use Rattle.model.specs.declared.Change.{Change}
 use Rattle.model.specs.declared.Change.the-variants.{Write, WriteCommand, PrepareWrite, ExecuteWrite}
 
@@ -104,3 +106,25 @@ dataAfter p bytes (Write h) d = bytes
 dataAfter p bytes (WriteCommand h) d = bytes
 dataAfter p bytes (PrepareWrite h off) d = ifGranted (mayPrepare p h off (length d)) (sets bytes (p .len) d) bytes
 dataAfter p bytes (ExecuteWrite flags) d = bytes
+
+-- the same of any request: only those that may change something do
+unfoldable pub lentBy : Link → Lent → Found → Pending → Request → List ℕ → Lent
+lentBy link s slot w (request.Ask a) d = s
+lentBy link s slot w (request.FindByTypeValue g uuid) d = s
+lentBy link s slot w (request.Change c) d = lentAfter link s slot w c d
+lentBy link s slot w (request.ExchangeMtu mtu) d = s
+lentBy link s slot w request.Confirmation d = s
+
+unfoldable pub recordBy : Prepared → Request → ℕ → Prepared
+recordBy p (request.Ask a) n = p
+recordBy p (request.FindByTypeValue g uuid) n = p
+recordBy p (request.Change c) n = recordAfter p c n
+recordBy p (request.ExchangeMtu mtu) n = p
+recordBy p request.Confirmation n = p
+
+unfoldable pub dataBy : Prepared → List ℕ → Request → List ℕ → List ℕ
+dataBy p bytes (request.Ask a) d = bytes
+dataBy p bytes (request.FindByTypeValue g uuid) d = bytes
+dataBy p bytes (request.Change c) d = dataAfter p bytes c d
+dataBy p bytes (request.ExchangeMtu mtu) d = bytes
+dataBy p bytes request.Confirmation d = bytes

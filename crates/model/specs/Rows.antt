@@ -1,9 +1,9 @@
 -- The rows of the list answers, each a turn of a run (document 01, "Handlers"). Assumes nothing.
 use Prim.Native.Nat.{ℕ, _+_, _-_, min}
 use mathlib.Core.Bool.{Bool, true, false, cond}
-use mathlib.Core.List.{List, [], _∷_, _++_, map}
+use mathlib.Core.List.{List, _++_, map}
 use lib.Dec.{leb, ltb, eqb}
-use lib.ListN.{length, take, drop}
+use lib.ListN.{length, take}
 use Rattle.wire.specs.Test.{both}
 use Rattle.wire.specs.Bytes.{alike}
 use Rattle.wire.specs.Number.{wordBytes}

@@ -1,11 +1,10 @@
 -- The list answers as runs of turns: at each element a turn gives bytes, and says whether the list goes on. Assumes nothing.
-use Prim.Native.Nat.{ℕ, _+_, _-_, _≤_}
+use Prim.Native.Nat.{ℕ, _+_, _-_}
 use mathlib.Core.Path.{_≡_}
 use mathlib.Core.Bool.{Bool, true, false, cond}
 use mathlib.Core.List.{List, [], _∷_, _++_}
-use lib.ListN.{length, drop}
-use lib.Seq.{sets}
-use Rattle.wire.specs.Cursor.{advanced, Wrote}
+use lib.ListN.{length}
+use Rattle.wire.specs.Cursor.{Wrote}
 use Rattle.wire.specs.declared.cursor.WriteCursor.{WriteCursor}
 use Rattle.model.specs.declared.Turn.{Turn}
 

@@ -49,11 +49,18 @@ pub struct Turn {
     pub cursor: WriteCursor,
 }
 
-// What a request is answered: refused, by 1, 2 or 3; silence; or a response of so many bytes.
+// What a call of the server answers: refused, by the number that `specs/Told` gives; an ATT code; done; nothing to answer, or no; a value or a response of
+// so many bytes, which stand in the buffer that was lent.
 pub enum Answer {
     BadState,
     BadBuffer,
     BadPeer,
-    Silent,
-    Response(usize),
+    BadTable,
+    NoSlot,
+    NoHandle,
+    WrongLength,
+    Code(u8),
+    Done,
+    Nothing,
+    Value(usize),
 }

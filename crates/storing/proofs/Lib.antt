@@ -1,4 +1,5 @@
 pub mod Putting
 pub mod Owning
 pub mod Writing
+pub mod Tables
 pub mod Valid

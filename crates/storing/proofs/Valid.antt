@@ -144,21 +144,23 @@ module _ (list : List (List ℕ)) (store : ℕ) (row : List Slot) (ts : List (Li
       by (Denied c) e = v
 
   -- another table of a slot that is somebody's
-  own-valid : (who : Identity) → isBad who ≡ false → ((k : ℕ) → k < 8 → length (getD ts k []) ≡ 640) → (h off : ℕ) (d : List ℕ) (f : Found) → slotOf row who ≡ f → valid list store row (ownTables ts f h off d) ≡ true
-  unfolding ownTables
-  own-valid who good sized h off d Nothing e = v
-  own-valid who good sized h off d (At k) e =
-      let fresh = freshTable list in
-      let w = placed (matches who) noSlot row 0 k e in
-      let n = slots-count fresh row ts (right-slots list store row ts v) in
-      let m = eight-tables list store row ts v in
-      let t = getD ts k [] in
-      let laid = laid-at list store row ts v k (omega (arith, w .inside)) in
-      let kept = table-kept t (laid-accepts fresh t laid) h off d in
-      let here = somebody fresh (getD row k noSlot) (afterWrite t h off d) (kept-laid list t (sized k (omega (arith, w .inside))) laid (afterWrite t h off d) kept) (same-empty (getD row k noSlot .id) who (w .passes) ∙ good-somebody who good) in
-      with-tables (set ts k (afterWrite t h off d)) (length-set ts k (afterWrite t h off d))
-      (slot-changed fresh k row row ts (set ts k (afterWrite t h off d)) (table-set k row ts (afterWrite t h off d)) (right-slots list store row ts v)
-      (rw (getD-set-same ts k (afterWrite t h off d) [] (omega (arith, w .inside))) here))
+  module _ (who : Identity) (good : isBad who ≡ false) (sized : (k : ℕ) → k < 8 → length (getD ts k []) ≡ 640) where
+    pub kept-valid : (k : ℕ) → slotOf row who ≡ At k → (out : List ℕ) → (accepts (getD ts k []) ≡ true → Kept (getD ts k []) out) → valid list store row (set ts k out) ≡ true
+    kept-valid k e out kept =
+        let fresh = freshTable list in
+        let w = placed (matches who) noSlot row 0 k e in
+        let n = slots-count fresh row ts (right-slots list store row ts v) in
+        let m = eight-tables list store row ts v in
+        let t = getD ts k [] in
+        let laid = laid-at list store row ts v k (omega (arith, w .inside)) in
+        let here = somebody fresh (getD row k noSlot) out (kept-laid list t (sized k (omega (arith, w .inside))) laid out (kept (laid-accepts fresh t laid))) (same-empty (getD row k noSlot .id) who (w .passes) ∙ good-somebody who good) in
+        with-tables (set ts k out) (length-set ts k out)
+        (slot-changed fresh k row row ts (set ts k out) (table-set k row ts out) (right-slots list store row ts v) (rw (getD-set-same ts k out [] (omega (arith, w .inside))) here))
+
+    own-valid : (h off : ℕ) (d : List ℕ) (f : Found) → slotOf row who ≡ f → valid list store row (ownTables ts f h off d) ≡ true
+    unfolding ownTables
+    own-valid h off d Nothing e = v
+    own-valid h off d (At k) e = kept-valid k e _ (λ ok. table-kept (getD ts k []) ok h off d)
 
 store-length : (store : List ℕ) (a : Attribute) (off : ℕ) (d : List ℕ) → length (sharedStore store a off d) ≡ length store
 unfolding sharedStore

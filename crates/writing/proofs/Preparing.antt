@@ -1,5 +1,5 @@
 -- The ways of Prepare Write: the rule in its order, the record that grows, the answer. Assumes nothing.
-use mathlib.Core.Path.{_≡_, refl, sym, ap, _∙_}
+use mathlib.Core.Path.{_≡_, refl}
 use mathlib.Core.Bool.{Bool, true, false, cond}
 use mathlib.Core.List.{List, [], _∷_, _++_}
 use Prim.Native.Nat.{ℕ, _+_, _≤_, _<_}
@@ -9,9 +9,9 @@ use lib.Seq.{sets, length-take-le}
 use lib.Dec.{eqb, ltb}
 use borrow.Author.Tests.{eq-eqb, ne-eqb, lt-ltb, le-ltb, leb-true, ltb-false}
 use Rattle.wire.specs.Number.{wordBytes}
-use Rattle.wire.specs.Cursor.{put, moved, Wrote}
+use Rattle.wire.specs.Cursor.{put, moved}
 use Rattle.wire.specs.declared.cursor.WriteCursor.{WriteCursor}
-use Rattle.wire.proofs.Tests.{both-l, both-r}
+use Rattle.wire.proofs.Tests.{both-l}
 use Rattle.attribute.specs.declared.Access.{Access}
 use Rattle.attribute.specs.declared.Access.the-variants.{Granted, Denied}
 use Rattle.state.specs.Valid.{recordOk}

@@ -8,7 +8,8 @@ ghost use Rattle.table_view.specs.Told.{value};
 ghost use Rattle.state.specs.Valid.{recordOk};
 ghost use Rattle.model.specs.declared.Change.the-variants.{PrepareWrite, ExecuteWrite};
 ghost use Rattle.model.specs.View.{pendingOf, tableAt, viewOf};
-ghost use Rattle.model.specs.Answer.{Sent, Answered, sizeRule, doneRsp, echoRsp, executeAccess, changeTold};
+ghost use Rattle.model.specs.Answer.{Sent, sizeRule, doneRsp, echoRsp, executeAccess, changeTold};
+ghost use Rattle.model.specs.Told.{Answered};
 ghost use Rattle.model.specs.Change.{lent, Left, longer, mayPrepare, lentAfter, recordAfter, dataAfter};
 ghost use Rattle.storing.specs.Ready.{Ready};
 ghost use Rattle.writing.specs.Fits.{Fits};
@@ -101,14 +102,14 @@ fn prepare(
         let n = response::inner::error_response(out, 0x16, handle, code);
         return Changed {
             prepared: p,
-            answer: Answer::Response(n),
+            answer: Answer::Value(n),
         };
     }
     wire::inner::copy(bytes, p.len as usize, d);
     let n = echo(out, handle, offset, d);
     Changed {
         prepared: grow(p, handle, offset, d.len() as u16),
-        answer: Answer::Response(n),
+        answer: Answer::Value(n),
     }
 }
 
@@ -172,14 +173,14 @@ pub fn change(
             let n = response::inner::done_response(out, 0x13, 0x12, handle, a);
             Changed {
                 prepared: p,
-                answer: Answer::Response(n),
+                answer: Answer::Value(n),
             }
         }
         Change::WriteCommand { handle } => {
             let _ = storing::inner::write(list, store, tables, slot, link, handle, 0, d);
             Changed {
                 prepared: p,
-                answer: Answer::Silent,
+                answer: Answer::Nothing,
             }
         }
         Change::PrepareWrite { handle, offset } => prepare(p, bytes, handle, offset, d, out),
@@ -193,7 +194,7 @@ pub fn change(
             };
             Changed {
                 prepared: none,
-                answer: Answer::Response(n),
+                answer: Answer::Value(n),
             }
         }
     }

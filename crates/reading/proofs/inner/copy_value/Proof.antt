@@ -1,3 +1,4 @@
+-- `reading::inner::copy_value` meets its contract. What is located means the value, and as much of it as goes in is copied. Assumes nothing.
 use denote.Ref.{now}
 use mathlib.Core.Path.{ap, _∙_}
 use Rattle.values.specs.Locate.{gotOf}

@@ -1,3 +1,4 @@
+-- `reading::inner::read` meets its contract. What is located means what the view shows, and from the start on is the whole. Assumes nothing.
 use Rattle.reading.proofs.Ways.{from-start}
 use Rattle.values.proofs.Meaning.{got, inside}
 use borrow.Author.Needs.{needs}

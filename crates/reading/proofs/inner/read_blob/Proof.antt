@@ -1,3 +1,4 @@
+-- `reading::inner::read_blob` meets its contract. What is located means what the view shows. Assumes nothing.
 use Rattle.values.proofs.Meaning.{got, inside}
 use borrow.Author.Needs.{needs}
 use Rattle.reading.proofs.inner.read_blob.Statement.{statement}

@@ -1,3 +1,4 @@
+-- `reading::inner::read_multiple` meets its contract. With a handle and without: a law for each. Assumes nothing.
 use mathlib.Core.Path.{ap, _∙_}
 use Prim.Native.Nat.{ℕ}
 use Rattle.model.specs.Answer.{errorRsp}

@@ -1,3 +1,4 @@
+-- `response::inner::done_response` meets its contract. One byte, or the error. Assumes nothing.
 use native.Mathlib.Omega.{arith}
 use Rattle.model.proofs.Sending.{sent, sent-as}
 use Rattle.response.proofs.Errors.{one-byte}

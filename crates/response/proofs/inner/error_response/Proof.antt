@@ -1,3 +1,4 @@
+-- `response::inner::error_response` meets its contract. Four writes of the cursor, joined. Assumes nothing.
 use native.Mathlib.Omega.{arith}
 use Rattle.response.proofs.Errors.{error}
 use borrow.Author.Needs.{needs}

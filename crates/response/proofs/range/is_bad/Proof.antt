@@ -1,3 +1,4 @@
+-- `response::range::is_bad` meets its contract. A law for each answer. Assumes nothing.
 use Rattle.model.proofs.Sending.{from-zero, not-zero}
 use Rattle.response.proofs.range.is_bad.Statement.{statement}
 use Rattle.response.proofs.range.is_bad.Tie as tie

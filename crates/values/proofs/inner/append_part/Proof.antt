@@ -1,3 +1,4 @@
+-- `values::inner::append_part` meets its contract. One write of the cursor that has room. Assumes nothing.
 use native.Mathlib.Omega.{arith}
 use Rattle.wire.proofs.Written.{wrote, wrote-as}
 use lib.ListN.{length-take, length-drop}

@@ -1,3 +1,4 @@
+-- `values::inner::append_span` meets its contract. A part of the table, or of the store. Assumes nothing.
 use Rattle.wire.proofs.Written.{wrote-as}
 use Rattle.values.proofs.Ways.{side-client, side-shared, part-client, part-shared}
 use native.Mathlib.Omega.{arith}

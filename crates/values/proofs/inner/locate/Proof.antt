@@ -1,3 +1,4 @@
+-- `values::inner::locate` meets its contract. The handle is listed, or it is not: a law for each. Assumes nothing.
 use Rattle.values.proofs.Ways.{absent, listed}
 use Rattle.attribute.specs.Lookup.{hasHandle}
 use Rattle.wire.proofs.Walk.{placed}

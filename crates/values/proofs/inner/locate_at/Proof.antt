@@ -1,3 +1,4 @@
+-- `values::inner::locate_at` meets its contract. The link may read it, or it may not: a law for each. Assumes nothing.
 use Rattle.values.proofs.Ways.{may, may-not}
 use mathlib.Core.Path.{sym, _∙_}
 use borrow.Author.Needs.{needs}

@@ -1,3 +1,4 @@
+-- `values::inner::locate_own` meets its contract. The key is found, or it is not: a law for each. Assumes nothing.
 use Rattle.values.proofs.Ways.{none-own, one-own}
 use Rattle.table_view.proofs.Shape.{fits, entry-at}
 use Rattle.table_view.proofs.Search.{placed}

@@ -1,3 +1,4 @@
+-- `values::inner::locate_value` meets its contract. A client value, or a shared one: a law for each. Assumes nothing.
 use denote.Ref.{now}
 use Rattle.values.proofs.Ways.{of-client, of-store}
 use mathlib.Core.Path.{_∙_}

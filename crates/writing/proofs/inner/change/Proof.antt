@@ -1,3 +1,4 @@
+-- `writing::inner::change` meets its contract. Each of the four as its handler leaves it. Assumes nothing.
 use Rattle.writing.proofs.Preparing.{record-fits, pending-length}
 use Rattle.writing.proofs.Changing.{write-leaves, command-leaves, execute-leaves, prepare-leaves}
 use Rattle.model.proofs.Sending.{answered, answered-as, silent}

@@ -1,3 +1,4 @@
+-- `writing::inner::commit` meets its contract. Nothing is due, or the pending write: a law for each. Assumes nothing.
 use native.Mathlib.Omega.{arith}
 use Rattle.writing.proofs.Changing.{other-flags, nothing-pending, is-due, not-due, due}
 use Rattle.model.specs.Change.{lent}

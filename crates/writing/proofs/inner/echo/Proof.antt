@@ -1,3 +1,4 @@
+-- `writing::inner::echo` meets its contract. Four writes of the cursor, joined. Assumes nothing.
 use Rattle.writing.proofs.Preparing.{echoed}
 use borrow.Author.Needs.{needs}
 use Rattle.writing.proofs.inner.echo.Statement.{statement}

@@ -1,3 +1,4 @@
+-- `writing::inner::grow` meets its contract. The first bytes, or more of them. Assumes nothing.
 use Rattle.writing.proofs.Preparing.{begins, goes-on}
 use borrow.Author.Needs.{needs}
 use Rattle.writing.proofs.inner.grow.Statement.{statement}

@@ -1,3 +1,4 @@
+-- `writing::inner::has_room` meets its contract. A law for each answer. Assumes nothing.
 use Rattle.writing.proofs.Preparing.{too-long, goes-in}
 use borrow.Author.Needs.{needs}
 use Rattle.writing.proofs.inner.has_room.Statement.{statement}

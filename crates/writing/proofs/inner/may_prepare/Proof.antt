@@ -1,3 +1,4 @@
+-- `writing::inner::may_prepare` meets its contract. A law for each answer, in the order of the tests. Assumes nothing.
 use Rattle.writing.proofs.Preparing.{no-handle, first-one, other-handle, other-offset, one-more}
 use mathlib.Core.Path.{_∙_}
 use borrow.Author.Needs.{needs}

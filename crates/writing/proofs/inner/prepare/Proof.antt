@@ -1,3 +1,4 @@
+-- `writing::inner::prepare` meets its contract. What is refused changes nothing; what is granted goes in. Assumes nothing.
 use Rattle.writing.proofs.Preparing.{granted-fits, refused, taken}
 use Rattle.model.proofs.Sending.{answered, sent-as}
 use mathlib.Core.Path.{refl, sym, _∙_}

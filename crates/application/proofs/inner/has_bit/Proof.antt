@@ -1,0 +1,54 @@
+-- `application::inner::has_bit` meets its contract. By what the lookup finds, and by the length of the value. Assumes nothing.
+use mathlib.Core.Path.{_≡_, sym, _∙_}
+use borrow.Author.Needs.{needs}
+use denote.Ref.{now}
+use Rattle.table_view.specs.Lookup.{placeOf}
+use Rattle.table_view.specs.declared.Found.the-variants.{At}
+use Rattle.table_view.proofs.Search.{placed}
+use Rattle.application.proofs.Peers.{no-value, another-length, two-bytes}
+use Rattle.application.proofs.inner.has_bit.Statement.{statement}
+use Rattle.application.proofs.inner.has_bit.Tie as tie
+
+at : (c : tie.After-p) → placeOf (now (c .before .before .before .before .args .table)) (c .before .before .before .before .args .handle) ≡ At (c .p .given .0 .0)
+at c = sym (c .before .before .find .ensures) ∙ c .p .given .1
+
+find-requires : tie.Need-find-requires
+find-requires c κs = search needs
+
+enum-known-p : tie.Need-enum-known-p
+enum-known-p c = search needs
+
+enum-told : tie.Need-enum-told
+enum-told c = search needs
+
+returns : tie.Need-returns
+returns c = no-value _ _ _ (sym (c .before .before .find .ensures) ∙ c .enum-told .given .1)
+
+value-requires : tie.Need-value-requires
+value-requires c κs = (c .before .before .before .before .before .pre .0, placed _ _ _ (at (c .before)) .inside)
+
+returns-2 : tie.Need-returns-2
+returns-2 c = another-length _ _ _ _ (at (c .before .before .before)) (c .before .value .result .now) (c .before .value .ensures) (c .if1 .taken)
+
+shared-slice-read-result : tie.Need-shared-slice-read-result
+shared-slice-read-result c = search needs
+
+div-result : tie.Need-div-result
+div-result c = search needs
+
+returns-3 : tie.Need-returns-3
+returns-3 c = two-bytes _ _ _ _ (at (c .before .before .before .before)) (c .before .before .value .result .now) (c .before .before .value .ensures) (c .before .if1 .left)
+
+pub has-bit-spec : {M : Type 1} → statement M
+has-bit-spec =
+    tie.close
+    (tie.spec
+    find-requires
+    enum-known-p
+    enum-told
+    returns
+    value-requires
+    returns-2
+    shared-slice-read-result
+    div-result
+    returns-3)

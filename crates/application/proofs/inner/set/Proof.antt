@@ -1,0 +1,81 @@
+-- `application::inner::set` meets its contract. A law for each answer; the place that is found is one of the list. Assumes nothing.
+use mathlib.Core.Path.{_≡_, sym, _∙_}
+use borrow.Author.Needs.{needs}
+use denote.Ref.{now}
+use Rattle.wire.specs.declared.Found.the-variants.{At}
+use Rattle.attribute.specs.Lookup.{placeOf}
+use Rattle.storing.proofs.Writing.{listed}
+use Rattle.application.proofs.Calls.{nothing-set, wrong-length, value-set}
+use Rattle.application.proofs.inner.set.Statement.{statement}
+use Rattle.application.proofs.inner.set.Tie as tie
+
+at : (c : tie.After-i) → placeOf (now (c .before .before .before .before .before .before .args .list)) (c .before .before .before .before .before .before .args .handle) ≡ At (c .i .given .0 .0)
+at c = sym (c .before .before .find-handle .ensures) ∙ c .i .given .1
+
+find-handle-requires : tie.Need-find-handle-requires
+find-handle-requires c κs = search needs
+
+enum-known-i : tie.Need-enum-known-i
+enum-known-i c = search needs
+
+enum-told : tie.Need-enum-told
+enum-told c = search needs
+
+same-length : tie.Need-same-length
+same-length c = search needs
+
+returns : tie.Need-returns
+returns c =
+    let a = c .before .before .before .before .before .before .args in
+    nothing-set (now (a .list)) (now (a .store)) (now (a .tables)) _ _ (now (a .d)) (sym (c .before .before .find-handle .ensures) ∙ c .enum-told .given .1)
+
+is-wrong-length-requires : tie.Need-is-wrong-length-requires
+is-wrong-length-requires c κs = listed _ _ _ (at (c .before .before))
+
+same-length-2 : tie.Need-same-length-2
+same-length-2 c = search needs
+
+returns-2 : tie.Need-returns-2
+returns-2 c =
+    let a = c .before .before .before .before .before .before .before .before .before .before .args in
+    wrong-length (now (a .list)) (now (a .store)) (now (a .tables)) _ _ (now (a .d)) _ (at (c .before .before .before .before)) (sym (c .if1 .taken) ∙ c .before .is-wrong-length .ensures)
+
+put-at-requires : tie.Need-put-at-requires
+put-at-requires c κs = (listed _ _ _ (at (c .before .before .before .before .before .before .before)), c .before .before .before .before .before .before .before .before .before .before .before .before .before .pre)
+
+accessed-requires : tie.Need-accessed-requires
+accessed-requires c κs = search needs
+
+same-length-3 : tie.Need-same-length-3
+same-length-3 c = search needs
+
+same-length-4 : tie.Need-same-length-4
+same-length-4 c = search needs
+
+same-length-5 : tie.Need-same-length-5
+same-length-5 c = search needs
+
+returns-3 : tie.Need-returns-3
+returns-3 c =
+    let a = c .before .before .before .before .before .before .before .before .before .before .before .before .before .before .before .before .before .before .before .args in
+    value-set (now (a .list)) (now (a .store)) (now (a .tables)) _ _ (now (a .d)) _ (at (c .before .before .before .before .before .before .before .before .before .before .before .before .before)) (sym (c .before .before .before .before .before .before .before .before .before .if1 .left) ∙ c .before .before .before .before .before .before .before .before .before .before .is-wrong-length .ensures) _ (c .accessed .result) _ _ _
+    (c .accessed .ensures) (c .before .before .before .before .before .put-at .ensures)
+
+pub set-spec : {M : Type 1} → statement M
+set-spec =
+    tie.close
+    (tie.spec
+    find-handle-requires
+    enum-known-i
+    enum-told
+    same-length
+    returns
+    is-wrong-length-requires
+    same-length-2
+    returns-2
+    put-at-requires
+    accessed-requires
+    same-length-3
+    same-length-4
+    same-length-5
+    returns-3)

@@ -1,0 +1,43 @@
+-- `attribute_server::value::get` meets its contract. A refusal leaves the buffer; a valid state is ready for the call. Assumes nothing.
+use Rattle.attribute_server.proofs.Admitting.{admitted, no-answer, yes-answer, ready}
+use mathlib.Core.Path.{sym, _∙_}
+use borrow.Author.Needs.{needs}
+use Rattle.attribute_server.proofs.value.get.Statement.{statement}
+use Rattle.attribute_server.proofs.value.get.Tie as tie
+
+admit-requires : tie.Need-admit-requires
+admit-requires c κs = search needs
+
+enum-known-a : tie.Need-enum-known-a
+enum-known-a c = search needs
+
+returns : tie.Need-returns
+returns c = no-answer _ _ _ _ _ _ (sym (c .before .before .before .admit .ensures) ∙ c .before .a .given .1)
+
+enum-told : tie.Need-enum-told
+enum-told c = search needs
+
+find-slot-requires : tie.Need-find-slot-requires
+find-slot-requires c κs = search needs
+
+get-requires : tie.Need-get-requires
+get-requires c κs = rw (c .before .find-slot .ensures) (ready _ _ _ _ (c .before .before .before .before .before .before .before .args .who) (admitted _ _ _ (sym (c .before .before .before .before .admit .ensures) ∙ c .before .before .enum-told .given .1) .right))
+
+same-length : tie.Need-same-length
+same-length c = search needs
+
+returns-2 : tie.Need-returns-2
+returns-2 c = yes-answer _ _ _ _ _ (sym (c .before .before .before .before .before .before .before .admit .ensures) ∙ c .before .before .before .before .before .enum-told .given .1) (rw (c .before .before .before .before .find-slot .ensures) at (c .before .before .get .ensures))
+
+pub get-spec : {M : Type 1} → statement M
+get-spec =
+    tie.close
+    (tie.spec
+    admit-requires
+    enum-known-a
+    returns
+    enum-told
+    find-slot-requires
+    get-requires
+    same-length
+    returns-2)

@@ -1,0 +1,101 @@
+// The refusals that come before anything else, in one place.
+ghost use mathlib.Core.Path.{_≡_};
+ghost use mathlib.Core.Bool.{false};
+ghost use Prim.Native.Nat.{_≤_};
+ghost use Rattle.peers.specs.Identity.{isBad};
+ghost use Rattle.state.specs.Valid.{valid, validWith};
+ghost use Rattle.attribute_server.specs.Admission.{admissionBy, changeTooLong, isTooLong, isBadBuffer};
+use crate::Admission;
+use model::Answer;
+use model::Change;
+use model::Request;
+use peers::Identity;
+use peers::Slot;
+use state::Prepared;
+
+// For a call of the application.
+pub fn admit(
+    list: &[[u8; 32]],
+    store: usize,
+    row: [Slot; 8],
+    tables: &[[u8; 640]],
+    who: Identity,
+) -> Admission
+    ensures { λ r. ⌜ r ≡ admissionBy (valid (now (list .entry)) store row (now (tables .entry))) false (isBad who) ⌝ }
+{
+    if !state::is_valid(list, store, row, tables) {
+        return Admission::No(Answer::BadState);
+    }
+    if peers::who::is_bad(who) {
+        return Admission::No(Answer::BadPeer);
+    }
+    Admission::Yes
+}
+
+// Whether a request brings more than its answer can repeat: a Prepare Write, in a buffer of at least 23 bytes.
+fn is_change_too_long(c: Change, n: usize, room: usize) -> bool
+    requires { ⌜ 23 ≤ room ⌝ }
+    ensures { λ r. ⌜ r ≡ changeTooLong c n room ⌝ }
+{
+    match c {
+        Change::Write { handle: _ } => false,
+        Change::WriteCommand { handle: _ } => false,
+        Change::PrepareWrite {
+            handle: _,
+            offset: _,
+        } => room - 5 < n,
+        Change::ExecuteWrite { flags: _ } => false,
+    }
+}
+
+fn is_too_long(rq: Request, n: usize, room: usize) -> bool
+    requires { ⌜ 23 ≤ room ⌝ }
+    ensures { λ r. ⌜ r ≡ isTooLong rq n room ⌝ }
+{
+    match rq {
+        Request::Ask(_) => false,
+        Request::FindByTypeValue { range: _, uuid: _ } => false,
+        Request::Change(c) => is_change_too_long(c, n, room),
+        Request::ExchangeMtu { mtu: _ } => false,
+        Request::Confirmation => false,
+    }
+}
+
+// Whether a buffer of so many bytes is refused for a request that brings n.
+fn is_bad_buffer(rq: Request, n: usize, room: usize) -> bool
+    ensures { λ r. ⌜ r ≡ isBadBuffer rq n room ⌝ }
+{
+    if room < 23 {
+        return true;
+    }
+    if 517 < room {
+        return true;
+    }
+    is_too_long(rq, n, room)
+}
+
+// For a request.
+pub fn admit_request(
+    list: &[[u8; 32]],
+    store: usize,
+    row: [Slot; 8],
+    tables: &[[u8; 640]],
+    who: Identity,
+    p: Prepared,
+    rq: Request,
+    n: usize,
+    room: usize,
+) -> Admission
+    ensures { λ r. ⌜ r ≡ admissionBy (validWith (now (list .entry)) store row (now (tables .entry)) p) (isBadBuffer rq n room) (isBad who) ⌝ }
+{
+    if !state::is_valid_with(list, store, row, tables, p) {
+        return Admission::No(Answer::BadState);
+    }
+    if is_bad_buffer(rq, n, room) {
+        return Admission::No(Answer::BadBuffer);
+    }
+    if peers::who::is_bad(who) {
+        return Admission::No(Answer::BadPeer);
+    }
+    Admission::Yes
+}

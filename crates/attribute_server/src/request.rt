@@ -1,0 +1,55 @@
+// Requests over a link.
+ghost use mathlib.Core.Path.{_≡_};
+ghost use Rattle.attribute_server.specs.Request.{call, Processed};
+use crate::Admission;
+use crate::refusal;
+use attribute::Link;
+use model::Answer;
+use model::Request;
+use peers::Identity;
+use peers::Slot;
+use state::Prepared;
+use writing::Changed;
+
+fn refused(p: Prepared, answer: Answer) -> Changed
+    ensures { λ r. ⌜ (r .prepared ≡ p) × (r .answer ≡ answer) ⌝ }
+{
+    Changed {
+        prepared: p,
+        answer,
+    }
+}
+
+// Answers a request of a peer over its link: d are the bytes that it brings, `bytes` those of the link's prepared write, `out` is for the response.
+pub fn process(
+    list: &mut [[u8; 32]],
+    store: &mut [u8],
+    row: [Slot; 8],
+    tables: &mut [[u8; 640]],
+    who: Identity,
+    link: Link,
+    p: Prepared,
+    bytes: &mut [u8; 512],
+    rq: Request,
+    d: &[u8],
+    out: &mut [u8],
+) -> Changed
+    ensures { λ r. ⌜ Processed (call (now (list .entry)) (now (store .entry)) row (now (tables .entry)) who link p (now (bytes .entry)) rq (now (d .entry))) (now (out .entry))
+        r (now (list .exit)) (now (store .exit)) (now (tables .exit)) (now (bytes .exit)) (now (out .exit)) ⌝ }
+{
+    if let Admission::No(a) = refusal::admit_request(
+        list,
+        store.len(),
+        row,
+        tables,
+        who,
+        p,
+        rq,
+        d.len(),
+        out.len(),
+    ) {
+        return refused(p, a);
+    }
+    let slot = peers::inner::find_slot(row, who);
+    requests::inner::answer(list, store, tables, slot, link, p, bytes, rq, d, out)
+}

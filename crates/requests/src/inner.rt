@@ -1,0 +1,135 @@
+// A request that meets a valid state, with a buffer for its answer. `slot` is the asking peer's.
+ghost use mathlib.Core.Path.{_≡_};
+ghost use mathlib.Core.Bool.{true};
+ghost use Prim.Native.Nat.{_≤_};
+ghost use lib.ListN.{length};
+ghost use Rattle.state.specs.Valid.{recordOk};
+ghost use Rattle.model.specs.View.{pendingOf, tableAt, seenAll, viewOf};
+ghost use Rattle.model.specs.Answer.{Sent, askRsp, requestTold};
+ghost use Rattle.model.specs.Told.{Answered};
+ghost use Rattle.model.specs.Change.{lent, Left, lentBy, recordBy, dataBy};
+ghost use Rattle.values.specs.Locate.{Ready as ReadReady};
+ghost use Rattle.storing.specs.Ready.{Ready};
+ghost use Rattle.requests.specs.Fits.{RequestFits};
+use attribute::Link;
+use model::Answer;
+use model::Ask;
+use model::Request;
+use state::Prepared;
+use wire::Found;
+use writing::Changed;
+
+// The requests that only read, with the asking peer's own table.
+fn ask(
+    list: &[[u8; 32]],
+    store: &[u8],
+    table: &[u8],
+    link: Link,
+    rq: Ask,
+    d: &[u8],
+    out: &mut [u8],
+) -> usize
+    requires { ⌜ ReadReady (now list) (length (now store)) (now table) × (6 ≤ length (now out)) ⌝ }
+    ensures { λ r. ⌜ Sent (now (out .entry)) (now (out .exit)) r (askRsp (seenAll link (now (list .entry)) (now (store .entry)) (now (table .entry))) (length (now (out .entry))) rq (now (d .entry))) ⌝ }
+{
+    match rq {
+        Ask::FindInformation(g) => finding::inner::find_information(list, g, out),
+        Ask::ReadByType(g) => listing::inner::read_by_type(list, store, table, link, g, d, out),
+        Ask::ReadByGroupType(g) => listing::inner::read_by_group_type(
+            list,
+            store,
+            table,
+            link,
+            g,
+            d,
+            out,
+        ),
+        Ask::Read { handle } => reading::inner::read(list, store, table, link, handle, out),
+        Ask::ReadBlob { handle, offset } => reading::inner::read_blob(
+            list,
+            store,
+            table,
+            link,
+            handle,
+            offset,
+            out,
+        ),
+        Ask::ReadMultiple => reading::inner::read_multiple(d, out),
+    }
+}
+
+// The same with the peer's slot: a peer without one has the table that has no entries.
+fn ask_from(
+    list: &[[u8; 32]],
+    store: &[u8],
+    tables: &[[u8; 640]],
+    slot: Found,
+    link: Link,
+    rq: Ask,
+    d: &[u8],
+    out: &mut [u8],
+) -> usize
+    requires { ⌜ Ready (now list) (length (now store)) (now tables) slot × (6 ≤ length (now out)) ⌝ }
+    ensures { λ r. ⌜ Sent (now (out .entry)) (now (out .exit)) r (askRsp (seenAll link (now (list .entry)) (now (store .entry)) (tableAt (now (tables .entry)) slot)) (length (now (out .entry))) rq (now (d .entry))) ⌝ }
+{
+    match slot {
+        Found::At(k) => ask(list, store, &tables[k], link, rq, d, out),
+        Found::Nothing => ask(list, store, &[0, 0, 0, 0], link, rq, d, out),
+    }
+}
+
+// An answer that leaves the link's prepared write.
+fn kept(p: Prepared, answer: Answer) -> Changed
+    ensures { λ r. ⌜ (r .prepared ≡ p) × (r .answer ≡ answer) ⌝ }
+{
+    Changed {
+        prepared: p,
+        answer,
+    }
+}
+
+// Any request.
+pub fn answer(
+    list: &mut [[u8; 32]],
+    store: &mut [u8],
+    tables: &mut [[u8; 640]],
+    slot: Found,
+    link: Link,
+    p: Prepared,
+    bytes: &mut [u8],
+    rq: Request,
+    d: &[u8],
+    out: &mut [u8],
+) -> Changed
+    requires { ⌜ Ready (now list) (length (now store)) (now tables) slot × (recordOk p ≡ true) ⌝ }
+    requires { ⌜ (length (now bytes) ≡ 512) × (6 ≤ length (now out)) × RequestFits rq (length (now d)) (length (now out)) ⌝ }
+    ensures { λ r. ⌜ (r .prepared ≡ recordBy p rq (length (now (d .entry))))
+        × (now (bytes .exit) ≡ dataBy p (now (bytes .entry)) rq (now (d .entry)))
+        × Left (lentBy link (lent (now (list .entry)) (now (store .entry)) (now (tables .entry))) slot (pendingOf p (now (bytes .entry))) rq (now (d .entry))) (now (list .exit)) (now (store .exit)) (now (tables .exit))
+        × Answered (now (out .entry)) (now (out .exit)) (r .answer) (requestTold (viewOf link (now (list .entry)) (now (store .entry)) (tableAt (now (tables .entry)) slot) (pendingOf p (now (bytes .entry)))) (now (list .entry)) (now (store .entry)) (length (now (out .entry))) rq (now (d .entry))) ⌝ }
+{
+    match rq {
+        Request::Ask(a) => {
+            let n = ask_from(list, store, tables, slot, link, a, d, out);
+            kept(p, Answer::Value(n))
+        }
+        Request::FindByTypeValue { range, uuid } => {
+            let n = finding::inner::find_by_type_value(list, store, range, uuid, d, out);
+            kept(p, Answer::Value(n))
+        }
+        Request::Change(c) => writing::inner::change(
+            list,
+            store,
+            tables,
+            slot,
+            link,
+            p,
+            bytes,
+            c,
+            d,
+            out,
+        ),
+        Request::ExchangeMtu { mtu: _ } => kept(p, Answer::Nothing),
+        Request::Confirmation => kept(p, Answer::Nothing),
+    }
+}

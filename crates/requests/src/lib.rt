@@ -1,0 +1,2 @@
+// Every request, handed to its handler.
+pub mod inner;
