@@ -9,7 +9,6 @@ use lib.Dec.{ltb}
 use borrow.Author.Tests.{lt-ltb, le-ltb, ltb-false}
 use Rattle.wire.proofs.Tests.{both-l, both-r}
 use Rattle.table_view.specs.Told.{Told}
-use Rattle.attribute.specs.Rules.{listOk}
 use Rattle.peers.specs.Slots.{slotOf}
 use Rattle.peers.specs.declared.Identity.{Identity}
 use Rattle.peers.specs.declared.Slot.{Slot}
@@ -17,7 +16,7 @@ use Rattle.peers.proofs.Laws.{slot-inside}
 use Rattle.state.specs.Valid.{valid, validWith, recordOk}
 use Rattle.state.specs.declared.Prepared.{Prepared}
 use Rattle.state.specs.Fresh.{freshTable}
-use Rattle.state.proofs.Keeping.{tables-read}
+use Rattle.state.proofs.Keeping.{tables-read, eight-tables, right-list, right-slots}
 use Rattle.state.proofs.Each.{slots-count}
 use Rattle.model.specs.Told.{toldAnswer, Answered}
 use Rattle.model.specs.Change.{Lent, Left}
@@ -115,19 +114,14 @@ module _ (d : Admission) (s new : Lent) where
 
 -- a valid state is ready for a peer's call
 module _ (list : List (List ℕ)) (store : ℕ) (row : List Slot) (ts : List (List ℕ)) (who : Identity) (h : valid list store row ts ≡ true) where
-  valid-list : listOk list store ≡ true
-  unfolding valid
-  valid-list = both-l _ _ (both-r _ _ h)
-
   eight : length row ≡ 8
-  unfolding valid
-  eight = slots-count (freshTable list) row ts (both-r _ _ (both-r _ _ (both-r _ _ h))) ∙ tables-read list store row ts h .eight
+  eight = slots-count (freshTable list) row ts (right-slots list store row ts h) ∙ eight-tables list store row ts h
 
   pub slot-ready : SlotReady ts (slotOf row who)
   slot-ready = record { tables = tables-read list store row ts h; inside = λ k e. omega (arith, slot-inside row who k e, eight) }
 
   pub ready : Ready list store ts (slotOf row who)
-  ready = record { right = valid-list; own = slot-ready }
+  ready = record { right = right-list list store row ts h; own = slot-ready }
 
 module _ (list : List (List ℕ)) (store : ℕ) (row : List Slot) (ts : List (List ℕ)) (p : Prepared) (h : validWith list store row ts p ≡ true) where
   pub with-record : recordOk p ≡ true

@@ -16,7 +16,7 @@ use Rattle.wire.specs.Cursor.{put, moved, Wrote}
 use Rattle.wire.specs.declared.Found.the-variants.{At, Nothing}
 use Rattle.wire.specs.declared.cursor.WriteCursor.{WriteCursor}
 use Rattle.wire.proofs.Walk.{placed}
-use Rattle.wire.proofs.Written.{wrote-then, wrote-length}
+use Rattle.wire.proofs.Written.{wrote-then, wrote-length, wrote-next}
 use Rattle.attribute.specs.Record.{Entry, entryOf, attributeOf, uuidOf}
 use Rattle.attribute.specs.Lookup.{handleOf, entriesOf, recorded}
 use Rattle.model.specs.Run.{run, fromFirst, stop, skip, put as chunk, Turned}
@@ -24,7 +24,7 @@ use Rattle.model.specs.Rows.{infoTurn}
 use Rattle.model.specs.Answer.{Sent, errorRsp, infoFrom}
 use Rattle.model.proofs.Running.{run-map, from-map, starts-at, starts-nowhere}
 use Rattle.model.proofs.Sending.{sent, sent-as}
-use Rattle.response.proofs.Errors.{one-byte, next}
+use Rattle.response.proofs.Errors.{one-byte}
 use Rattle.finding.specs.Turns.{infoAt}
 use Rattle.finding.proofs.Writes.{row}
 
@@ -92,7 +92,7 @@ uuid-short r u h q = omega (arith, ap length q, length-take (getD r 11 0) (drop 
 -- the two bytes before the rows, and the rows behind them
 module _ (old o₁ o₂ : List ℕ) (c₀ c₁ c₂ : WriteCursor) (f : ℕ) (room : 2 ≤ length old) (z : c₀ .len ≡ 0) (e₁ : c₁ ≡ moved (length old) c₀ 1) (p₁ : o₁ ≡ put old (c₀ .len) (0x05 ∷ [])) (e₂ : c₂ ≡ moved (length o₁) c₁ 1) (p₂ : o₂ ≡ put o₁ (c₁ .len) (f ∷ [])) where
   header : Wrote old o₂ c₀ c₂ (0x05 ∷ f ∷ [])
-  header = next old o₁ o₂ (0x05 ∷ []) (f ∷ []) c₀ c₁ c₂ z (one-byte old o₁ 0x05 c₀ c₁ z (omega arith) e₁ p₁) (omega arith) e₂ p₂
+  header = wrote-next old o₁ o₂ (0x05 ∷ []) (f ∷ []) c₀ c₁ c₂ (one-byte old o₁ 0x05 c₀ c₁ z (omega arith) e₁ p₁) (omega arith) e₂ p₂
 
   same-size : length o₂ ≡ length old
   same-size = wrote-length old o₂ (0x05 ∷ f ∷ []) c₀ c₂ header

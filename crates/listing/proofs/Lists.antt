@@ -17,7 +17,7 @@ use Rattle.wire.specs.declared.Found.the-variants.{At, Nothing}
 use Rattle.wire.specs.declared.cursor.WriteCursor.{WriteCursor}
 use Rattle.wire.proofs.Tests.{split}
 use Rattle.wire.proofs.Walk.{placed}
-use Rattle.wire.proofs.Written.{wrote, wrote-then, wrote-as, wrote-length}
+use Rattle.wire.proofs.Written.{wrote, wrote-then, wrote-as, wrote-length, wrote-next}
 use Rattle.attribute.specs.Record.{Entry, entryOf, attributeOf}
 use Rattle.attribute.specs.Lookup.{handleOf, entriesOf, recorded, groupEnd}
 use Rattle.attribute.specs.declared.Link.{Link}
@@ -29,7 +29,7 @@ use Rattle.model.specs.Answer.{Sent, errorRsp, firstRsp, listFrom}
 use Rattle.model.specs.declared.Form.{Form}
 use Rattle.model.proofs.Running.{run-map, starts-at, starts-nowhere, from-map, map-map}
 use Rattle.model.proofs.Sending.{sent, sent-as}
-use Rattle.response.proofs.Errors.{one-byte, next}
+use Rattle.response.proofs.Errors.{one-byte}
 use Rattle.values.specs.declared.Span.{Span}
 use Rattle.values.specs.declared.Located.{Located}
 use Rattle.values.specs.declared.Located.the-variants.{Here, Not}
@@ -205,7 +205,7 @@ module _ (f : Form) (link : Link) (store t : List ℕ) (want : Entry → Bool) (
 -- the two bytes before the rows, and the rows behind them
 module _ (old o₁ o₂ : List ℕ) (a b : ℕ) (c₀ c₁ c₂ : WriteCursor) (room : 2 ≤ length old) (z : c₀ .len ≡ 0) (m₁ : c₁ ≡ moved (length old) c₀ 1) (p₁ : o₁ ≡ written old (c₀ .len) (a ∷ [])) (m₂ : c₂ ≡ moved (length o₁) c₁ 1) (p₂ : o₂ ≡ written o₁ (c₁ .len) (b ∷ [])) where
   header : Wrote old o₂ c₀ c₂ (a ∷ b ∷ [])
-  header = next old o₁ o₂ (a ∷ []) (b ∷ []) c₀ c₁ c₂ z (one-byte old o₁ a c₀ c₁ z (omega arith) m₁ p₁) (omega arith) m₂ p₂
+  header = wrote-next old o₁ o₂ (a ∷ []) (b ∷ []) c₀ c₁ c₂ (one-byte old o₁ a c₀ c₁ z (omega arith) m₁ p₁) (omega arith) m₂ p₂
 
   header-end : (c₂ .len ≡ 2) × (length o₂ ≡ length old)
   header-end = (ap (λ (x : WriteCursor). x .len) (header .cursor) ∙ omega arith, wrote-length _ _ _ _ _ header)

@@ -1,5 +1,5 @@
 -- What one link can see of the hub: the list in which each value that it may not read is replaced by the code of the refusal, and its own
--- prepared write. Permission stands here and nowhere else. Assumes nothing.
+-- prepared write. Answers know of no other permission test. Assumes nothing.
 use Prim.Native.Nat.{ℕ}
 use mathlib.Core.Bool.{Bool}
 use mathlib.Core.List.{List, [], _∷_, map}

@@ -76,22 +76,28 @@ module _ (fresh : List ℕ) (lf : length fresh ≡ 640) (b : builder fresh ≡ t
     index : SameIndex fresh t
     index = same-index fresh t noSlot lf lt b head
 
+    -- where only values change, it stays laid out
+    module _ (out : List ℕ) (k : Kept t out) where
+      head-same : take (baseOf fresh) out ≡ take (baseOf fresh) t
+      head-same =
+          let c = count-same fresh t index in
+          let f = fits t ok in
+          let n : length (take (baseOf fresh) out) ≡ baseOf fresh = simp length-take (omega (arith, k .len)) in
+          let m : length (take (baseOf fresh) t) ≡ baseOf fresh = simp length-take (omega arith) in
+          ext-getD 0 _ _ (n ∙ sym m)
+          (λ j h.
+          let i : j < baseOf fresh = omega arith in
+          rw (getD-take (baseOf fresh) out j 0 i, getD-take (baseOf fresh) t j 0 i) (k .index j (omega arith)))
+
+      past-zero : (j : ℕ) → endOf fresh ≤ j → getD out j 0 ≡ 0
+      past-zero j h = let e = end-same fresh t index in k .past j (omega arith) ∙ from-zeros t (endOf fresh) tail-zero j h
+
+      pub kept-laid : laidOut fresh out ≡ true
+      unfolding laidOut
+      kept-laid = both-true _ _ (rw head-same head) (both-true _ _ (k .ok) (zeros-from out (endOf fresh) past-zero))
+
     kept : Kept t (cleared t)
     kept = clear-kept t ok
-
-    head-same : take (baseOf fresh) (cleared t) ≡ take (baseOf fresh) t
-    head-same =
-        let c = count-same fresh t index in
-        let f = fits t ok in
-        let n : length (take (baseOf fresh) (cleared t)) ≡ baseOf fresh = simp length-take (omega (arith, kept .len)) in
-        let m : length (take (baseOf fresh) t) ≡ baseOf fresh = simp length-take (omega arith) in
-        ext-getD 0 _ _ (n ∙ sym m)
-        (λ j h.
-        let k : j < baseOf fresh = omega arith in
-        rw (getD-take (baseOf fresh) (cleared t) j 0 k, getD-take (baseOf fresh) t j 0 k) (kept .index j (omega arith)))
-
-    past-zero : (j : ℕ) → endOf fresh ≤ j → getD (cleared t) j 0 ≡ 0
-    past-zero j h = let e = end-same fresh t index in kept .past j (omega arith) ∙ from-zeros t (endOf fresh) tail-zero j h
 
     -- from the index on it is all zero
     rest-zero : (j : ℕ) → baseOf fresh ≤ j → getD (cleared t) j 0 ≡ 0
@@ -100,14 +106,11 @@ module _ (fresh : List ℕ) (lf : length fresh ≡ 640) (b : builder fresh ≡ t
         let e = end-same fresh t index in
         ⊎-elim
         (λ (k : j < endOf fresh). clear-byte t ok j (omega arith) (omega arith))
-        (λ (k : endOf fresh ≤ j). past-zero j k)
+        (λ (k : endOf fresh ≤ j). past-zero (cleared t) kept j k)
         (split j (endOf fresh))
 
     pub clear-laid : laidOut fresh (cleared t) ≡ true
-    unfolding laidOut
-    clear-laid =
-        both-true _ _ (rw head-same head)
-        (both-true _ _ (kept .ok) (zeros-from (cleared t) (endOf fresh) past-zero))
+    clear-laid = kept-laid (cleared t) kept
 
     -- so it is the fresh table again
     fresh-rest : (j : ℕ) → getD (drop (baseOf fresh) fresh) j 0 ≡ 0
@@ -117,7 +120,7 @@ module _ (fresh : List ℕ) (lf : length fresh ≡ 640) (b : builder fresh ≡ t
     pub clear-fresh : cleared t ≡ fresh
     clear-fresh =
         let k = kept .len in
-        joined (baseOf fresh) (cleared t) fresh (head-same ∙ alike-eq _ _ head)
+        joined (baseOf fresh) (cleared t) fresh (head-same (cleared t) kept ∙ alike-eq _ _ head)
         (ext-getD 0 _ _ (simp length-drop (omega arith))
         (λ j h. getD-drop (baseOf fresh) (cleared t) j 0 ∙ rest-zero (baseOf fresh + j) (omega arith) ∙ sym (fresh-rest j)))
 
@@ -149,7 +152,7 @@ module _ (list : List (List ℕ)) (store : ℕ) (row : List Slot) (ts : List (Li
   pub tables-read : Tables ts
   tables-read = record { eight = eight-tables; read = λ i h. laid-accepts (freshTable list) (getD ts i []) (laid-at i h) }
 
-  with-slots : (row′ : List Slot) (ts′ : List (List ℕ)) → length ts′ ≡ length ts → slotsOk (freshTable list) row′ ts′ ≡ true → valid list store row′ ts′ ≡ true
+  pub with-slots : (row′ : List Slot) (ts′ : List (List ℕ)) → length ts′ ≡ length ts → slotsOk (freshTable list) row′ ts′ ≡ true → valid list store row′ ts′ ≡ true
   unfolding valid
   with-slots row′ ts′ n h =
       both-true _ _ (eq-eqb _ _ (n ∙ eight-tables))

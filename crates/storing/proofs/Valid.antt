@@ -1,23 +1,19 @@
 -- Valid in, valid out: a write keeps a valid state valid. A shared value's length stays within its capacity, and a client
 -- value's table keeps its header, its index and the zeros after its end. Assumes nothing.
-use mathlib.Core.Path.{_≡_, refl, sym, _∙_}
+use mathlib.Core.Path.{_≡_, refl, _∙_}
 use mathlib.Core.Bool.{Bool, true, false, cond}
 use mathlib.Core.List.{List, [], _∷_}
 use Prim.Native.Nat.{ℕ, zero, suc, _+_, _≤_, _<_}
 use native.Mathlib.Omega.{arith}
-use lib.ListN.{length, getD, take, drop, set, length-set, length-take}
-use lib.Seq.{sets, length-sets, ext-getD, getD-take, getD-set-same, getD-set-other}
-use borrow.Author.Tests.{eq-eqb, eqb-true, le-leb}
-use Rattle.wire.specs.Bytes.{zeros, alike}
+use lib.ListN.{length, getD, set, length-set}
+use lib.Seq.{sets, length-sets, getD-set-same, getD-set-other}
+use borrow.Author.Tests.{eqb-true}
 use Rattle.wire.specs.declared.Found.{Found}
 use Rattle.wire.specs.declared.Found.the-variants.{At, Nothing}
 use Rattle.wire.proofs.Tests.{both-l, both-r, both-true}
-use Rattle.wire.proofs.Fold.{zeros-from, from-zeros, alike-eq}
+use Rattle.wire.proofs.Fold.{alike-eq}
 use Rattle.wire.proofs.Walk.{placed}
-use Rattle.table_view.specs.Layout.{baseOf, endOf}
 use Rattle.table_view.specs.Rules.{accepts}
-use Rattle.table_view.proofs.Shape.{fits}
-use Rattle.table_view.proofs.Same.{SameIndex, count-same, end-same}
 use Rattle.client_att_table.specs.Write.{afterWrite}
 use Rattle.client_att_table.specs.AsList.{write, bytesAfter}
 use Rattle.client_att_table.proofs.Frame.{Kept}
@@ -36,11 +32,10 @@ use Rattle.peers.specs.declared.Identity.{Identity}
 use Rattle.peers.specs.declared.Slot.{Slot}
 use Rattle.peers.proofs.Changes.{OnlyAt}
 use Rattle.state.specs.Fresh.{clientsOf, freshTable, spaceOf, entriesSize}
-use Rattle.state.specs.Valid.{laidOut, slotsOk, valid}
+use Rattle.state.specs.Valid.{valid}
 use Rattle.state.proofs.Answers.{fresh-length, fresh-builder}
-use Rattle.state.proofs.Testing.{same-index}
 use Rattle.state.proofs.Each.{slots-count, slot-changed}
-use Rattle.state.proofs.Keeping.{somebody, laid-accepts, eight-tables, right-list, table-fits, right-slots, laid-at}
+use Rattle.state.proofs.Keeping.{somebody, laid-accepts, kept-laid, eight-tables, right-list, right-slots, laid-at, with-slots}
 use Rattle.state.proofs.Calls.{good-somebody}
 use Rattle.model.specs.Value.{writeRule}
 use Rattle.model.specs.Change.{Lent, ifGranted, lengthPut, sharedList, sharedStore, ownTables, putAt, writtenAt, written}
@@ -65,40 +60,6 @@ module _ (n : ℕ) where
   unfolding freshTable
   fresh-same list i l = rw (clients-same list i l)
 
--- a table that is laid out as the list's stays so where it is kept
-module _ (list : List (List ℕ)) (t : List ℕ) (lt : length t ≡ 640) (l : laidOut (freshTable list) t ≡ true) (out : List ℕ) (k : Kept t out) where
-  abbrev fresh : List ℕ
-  fresh = freshTable list
-
-  head : alike (take (baseOf fresh) t) (take (baseOf fresh) fresh) ≡ true
-  unfolding laidOut
-  head = both-l _ _ l
-
-  tail-zero : zeros (drop (endOf fresh) t) ≡ true
-  unfolding laidOut
-  tail-zero = both-r _ _ (both-r _ _ l)
-
-  index : SameIndex fresh t
-  index = same-index fresh t noSlot (fresh-length list) lt (fresh-builder list) head
-
-  head-same : take (baseOf fresh) out ≡ take (baseOf fresh) t
-  head-same =
-      let c = count-same fresh t index in
-      let f = fits t (laid-accepts fresh t l) in
-      let n : length (take (baseOf fresh) out) ≡ baseOf fresh = simp length-take (omega (arith, k .len)) in
-      let m : length (take (baseOf fresh) t) ≡ baseOf fresh = simp length-take (omega arith) in
-      ext-getD 0 _ _ (n ∙ sym m)
-      (λ j h.
-      let b : j < baseOf fresh = omega arith in
-      rw (getD-take (baseOf fresh) out j 0 b, getD-take (baseOf fresh) t j 0 b) (k .index j (omega arith)))
-
-  past-zero : (j : ℕ) → endOf fresh ≤ j → getD out j 0 ≡ 0
-  past-zero j h = let e = end-same fresh t index in k .past j (omega arith) ∙ from-zeros t (endOf fresh) tail-zero j h
-
-  kept-laid : laidOut (freshTable list) out ≡ true
-  unfolding laidOut
-  kept-laid = both-true _ _ (rw head-same head) (both-true _ _ (k .ok) (zeros-from out (endOf fresh) past-zero))
-
 -- whoever has the same identity is empty too
 same-empty : (a b : Identity) → sameId a b ≡ true → isEmpty a ≡ isEmpty b
 unfolding sameId isEmpty
@@ -113,12 +74,6 @@ unfolding bytesAfter
 table-kept t ok h off d = call-kept t ok (write h off d)
 
 module _ (list : List (List ℕ)) (store : ℕ) (row : List Slot) (ts : List (List ℕ)) (v : valid list store row ts ≡ true) where
-  with-tables : (ts′ : List (List ℕ)) → length ts′ ≡ length ts → slotsOk (freshTable list) row ts′ ≡ true → valid list store row ts′ ≡ true
-  unfolding valid
-  with-tables ts′ n h =
-      both-true _ _ (eq-eqb _ _ (n ∙ eight-tables list store row ts v))
-      (both-true _ _ (right-list list store row ts v) (both-true _ _ (le-leb _ _ (table-fits list store row ts v)) h))
-
   -- another present length of an entry
   resized-valid : (i n : ℕ) → length (getD list i []) ≡ 32 → Holds (attributeOf (getD list i [])) n → valid (set list i (withLength (getD list i []) n)) store row ts ≡ true
   unfolding valid
@@ -153,8 +108,8 @@ module _ (list : List (List ℕ)) (store : ℕ) (row : List Slot) (ts : List (Li
         let m = eight-tables list store row ts v in
         let t = getD ts k [] in
         let laid = laid-at list store row ts v k (omega (arith, w .inside)) in
-        let here = somebody fresh (getD row k noSlot) out (kept-laid list t (sized k (omega (arith, w .inside))) laid out (kept (laid-accepts fresh t laid))) (same-empty (getD row k noSlot .id) who (w .passes) ∙ good-somebody who good) in
-        with-tables (set ts k out) (length-set ts k out)
+        let here = somebody fresh (getD row k noSlot) out (kept-laid fresh (fresh-length list) (fresh-builder list) t (sized k (omega (arith, w .inside))) laid out (kept (laid-accepts fresh t laid))) (same-empty (getD row k noSlot .id) who (w .passes) ∙ good-somebody who good) in
+        with-slots list store row ts v row (set ts k out) (length-set ts k out)
         (slot-changed fresh k row row ts (set ts k out) (table-set k row ts out) (right-slots list store row ts v) (rw (getD-set-same ts k out [] (omega (arith, w .inside))) here))
 
     own-valid : (h off : ℕ) (d : List ℕ) (f : Found) → slotOf row who ≡ f → valid list store row (ownTables ts f h off d) ≡ true

@@ -20,7 +20,8 @@ use Rattle.model.specs.Answer.{Sent, errorRsp, sizeRule, prepareRule, doneRsp, 
 use Rattle.model.specs.Change.{longer, mayPrepare, recordAfter, dataAfter}
 use Rattle.model.specs.declared.Change.the-variants.{PrepareWrite}
 use Rattle.model.proofs.Sending.{sent}
-use Rattle.response.proofs.Errors.{one-byte, next}
+use Rattle.wire.proofs.Written.{wrote-next}
+use Rattle.response.proofs.Errors.{one-byte}
 
 -- the rule
 module _ (len n : ℕ) where
@@ -105,9 +106,9 @@ pub echoed : (old o₁ o₂ o₃ o₄ d : List ℕ) (h off : ℕ) (c₀ c₁ c�
     → Sent old o₄ (c₄ .len) (echoRsp h off d)
 echoed old o₁ o₂ o₃ o₄ d h off c₀ c₁ c₂ c₃ c₄ room z e₁ p₁ e₂ p₂ e₃ p₃ e₄ p₄ =
     let a = one-byte old o₁ 0x17 c₀ c₁ z (omega arith) e₁ p₁ in
-    let b = next old o₁ o₂ (0x17 ∷ []) (wordBytes h) c₀ c₁ c₂ z a (omega arith) e₂ p₂ in
-    let e = next old o₂ o₃ (0x17 ∷ wordBytes h) (wordBytes off) c₀ c₂ c₃ z b (omega arith) e₃ p₃ in
-    sent old o₄ _ c₀ c₄ z (next old o₃ o₄ ((0x17 ∷ wordBytes h) ++ wordBytes off) d c₀ c₃ c₄ z e (omega arith) e₄ p₄)
+    let b = wrote-next old o₁ o₂ (0x17 ∷ []) (wordBytes h) c₀ c₁ c₂ a (omega arith) e₂ p₂ in
+    let e = wrote-next old o₂ o₃ (0x17 ∷ wordBytes h) (wordBytes off) c₀ c₂ c₃ b (omega arith) e₃ p₃ in
+    sent old o₄ _ c₀ c₄ z (wrote-next old o₃ o₄ ((0x17 ∷ wordBytes h) ++ wordBytes off) d c₀ c₃ c₄ e (omega arith) e₄ p₄)
 
 -- a valid record: at most 512 bytes
 pub record-fits : (p : Prepared) → recordOk p ≡ true → p .len ≤ 512
