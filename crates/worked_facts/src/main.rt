@@ -1,4 +1,5 @@
 // Runs the worked facts of document 01 on the code and prints what it answers. `specs/Facts.antt` has the starred ones as a proved table.
+mod hub;
 mod say;
 
 use say::line;
@@ -119,5 +120,7 @@ fn main() {
     written_facts();
     saved_facts();
     push_facts();
+    hub::request_facts();
+    hub::slot_facts();
     printer_facts();
 }

@@ -1,8 +1,10 @@
 // Answers as text, in document 01's numbers.
 use libc::STDOUT_FILENO;
+use model::Answer;
 use table_builder::Pushed;
 use table_view::Got;
 use table_view::Outcome;
+use table_view::Span;
 
 pub fn say(s: &[u8]) {
     io::write_all(STDOUT_FILENO, s);
@@ -37,5 +39,28 @@ pub fn say_value(b: &[u8], r: Got) {
         Got::Value(s) => table_printer::print_hex(table_view::part(b, s)),
         Got::NotFound => say(b"none"),
         Got::Refused => say(b"refused 4"),
+    }
+}
+
+// An answer of the server: a value or a response is what stands in the buffer.
+pub fn say_answer(out: &[u8], a: Answer) {
+    match a {
+        Answer::BadState => say(b"refused 1"),
+        Answer::BadBuffer => say(b"refused 2"),
+        Answer::BadPeer => say(b"refused 3"),
+        Answer::BadTable => say(b"refused 4"),
+        Answer::NoSlot => say(b"refused 7"),
+        Answer::NoHandle => say(b"refused 8"),
+        Answer::WrongLength => say(b"refused 9"),
+        Answer::Code(code) => {
+            say(b"att ");
+            table_printer::print_hex(&[code]);
+        }
+        Answer::Done => say(b"ok"),
+        Answer::Nothing => say(b"none"),
+        Answer::Value(n) => table_printer::print_hex(table_view::part(
+            out,
+            Span { from: 0, to: n },
+        )),
     }
 }
