@@ -1,24 +1,14 @@
 // Requests over a link.
-ghost use mathlib.Core.Path.{_≡_};
 ghost use Rattle.attribute_server.specs.Request.{call, Processed};
 use crate::Admission;
 use crate::refusal;
 use attribute::Link;
-use model::Answer;
 use model::Request;
 use peers::Identity;
 use peers::Slot;
 use state::Prepared;
 use writing::Changed;
-
-fn refused(p: Prepared, answer: Answer) -> Changed
-    ensures { λ r. ⌜ (r .prepared ≡ p) × (r .answer ≡ answer) ⌝ }
-{
-    Changed {
-        prepared: p,
-        answer,
-    }
-}
+use writing::inner::with_record;
 
 // Answers a request of a peer over its link: d are the bytes that it brings, `bytes` those of the link's prepared write, `out` is for the response.
 pub fn process(
@@ -48,7 +38,7 @@ pub fn process(
         d.len(),
         out.len(),
     ) {
-        return refused(p, a);
+        return with_record(p, a);
     }
     let slot = peers::inner::find_slot(row, who);
     requests::inner::answer(list, store, tables, slot, link, p, bytes, rq, d, out)

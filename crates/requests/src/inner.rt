@@ -18,6 +18,8 @@ use model::Request;
 use state::Prepared;
 use wire::Found;
 use writing::Changed;
+use writing::inner::change;
+use writing::inner::with_record;
 
 // The requests that only read, with the asking peer's own table.
 fn ask(
@@ -78,16 +80,6 @@ fn ask_from(
     }
 }
 
-// An answer that leaves the link's prepared write.
-fn kept(p: Prepared, answer: Answer) -> Changed
-    ensures { λ r. ⌜ (r .prepared ≡ p) × (r .answer ≡ answer) ⌝ }
-{
-    Changed {
-        prepared: p,
-        answer,
-    }
-}
-
 // Any request.
 pub fn answer(
     list: &mut [[u8; 32]],
@@ -111,25 +103,14 @@ pub fn answer(
     match rq {
         Request::Ask(a) => {
             let n = ask_from(list, store, tables, slot, link, a, d, out);
-            kept(p, Answer::Value(n))
+            with_record(p, Answer::Value(n))
         }
         Request::FindByTypeValue { range, uuid } => {
             let n = finding::inner::find_by_type_value(list, store, range, uuid, d, out);
-            kept(p, Answer::Value(n))
+            with_record(p, Answer::Value(n))
         }
-        Request::Change(c) => writing::inner::change(
-            list,
-            store,
-            tables,
-            slot,
-            link,
-            p,
-            bytes,
-            c,
-            d,
-            out,
-        ),
-        Request::ExchangeMtu { mtu: _ } => kept(p, Answer::Nothing),
-        Request::Confirmation => kept(p, Answer::Nothing),
+        Request::Change(c) => change(list, store, tables, slot, link, p, bytes, c, d, out),
+        Request::ExchangeMtu { mtu: _ } => with_record(p, Answer::Nothing),
+        Request::Confirmation => with_record(p, Answer::Nothing),
     }
 }

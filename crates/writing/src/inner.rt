@@ -10,7 +10,7 @@ ghost use Rattle.model.specs.declared.Change.the-variants.{PrepareWrite, Execut
 ghost use Rattle.model.specs.View.{pendingOf, tableAt, viewOf};
 ghost use Rattle.model.specs.Answer.{Sent, sizeRule, doneRsp, echoRsp, executeAccess, changeTold};
 ghost use Rattle.model.specs.Told.{Answered};
-ghost use Rattle.model.specs.Change.{lent, Left, longer, mayPrepare, lentAfter, recordAfter, dataAfter};
+ghost use Rattle.model.specs.Change.{lent, Left, longer, mayPrepare, noRecord, lentAfter, recordAfter, dataAfter};
 ghost use Rattle.storing.specs.Ready.{Ready};
 ghost use Rattle.writing.specs.Fits.{Fits};
 use crate::Changed;
@@ -147,6 +147,27 @@ fn commit(
     )
 }
 
+// No prepared write.
+fn no_record() -> Prepared
+    ensures { λ r. ⌜ r ≡ noRecord ⌝ }
+{
+    Prepared {
+        handle: 0,
+        offset: 0,
+        len: 0,
+    }
+}
+
+// An answer that leaves the link with this prepared write.
+pub fn with_record(p: Prepared, answer: Answer) -> Changed
+    ensures { λ r. ⌜ (r .prepared ≡ p) × (r .answer ≡ answer) ⌝ }
+{
+    Changed {
+        prepared: p,
+        answer,
+    }
+}
+
 // Any of the four. Only Write Command is never answered.
 pub fn change(
     list: &mut [[u8; 32]],
@@ -171,31 +192,17 @@ pub fn change(
         Change::Write { handle } => {
             let a = storing::inner::write(list, store, tables, slot, link, handle, 0, d);
             let n = response::inner::done_response(out, 0x13, 0x12, handle, a);
-            Changed {
-                prepared: p,
-                answer: Answer::Value(n),
-            }
+            with_record(p, Answer::Value(n))
         }
         Change::WriteCommand { handle } => {
             let _ = storing::inner::write(list, store, tables, slot, link, handle, 0, d);
-            Changed {
-                prepared: p,
-                answer: Answer::Nothing,
-            }
+            with_record(p, Answer::Nothing)
         }
         Change::PrepareWrite { handle, offset } => prepare(p, bytes, handle, offset, d, out),
         Change::ExecuteWrite { flags } => {
             let a = commit(list, store, tables, slot, link, p, bytes, flags);
             let n = response::inner::done_response(out, 0x19, 0x18, 0, a);
-            let none = Prepared {
-                handle: 0,
-                offset: 0,
-                len: 0,
-            };
-            Changed {
-                prepared: none,
-                answer: Answer::Value(n),
-            }
+            with_record(no_record(), Answer::Value(n))
         }
     }
 }

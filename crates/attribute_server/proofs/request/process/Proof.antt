@@ -15,8 +15,8 @@ admit-request-requires c κs = search needs
 enum-known-a : tie.Need-enum-known-a
 enum-known-a c = search needs
 
-refused-requires : tie.Need-refused-requires
-refused-requires c κs = search needs
+with-record-requires : tie.Need-with-record-requires
+with-record-requires c κs = search needs
 
 same-length : tie.Need-same-length
 same-length c = search needs
@@ -27,7 +27,7 @@ same-length-2 c = search needs
 returns : tie.Need-returns
 returns c =
     let a = c .before .before .before .before .before .before .before .before .before .before .args in
-    process-refused (call (now (a .list)) (now (a .store)) (a .row) (now (a .tables)) (a .who) (a .link) (a .p) (now (a .bytes)) (a .rq) (now (a .d))) (now (a .out)) _ _ (sym (c .before .before .before .before .admit-request .ensures) ∙ c .before .before .a .given .1) (c .refused .ensures .0) (c .refused .ensures .1)
+    process-refused (call (now (a .list)) (now (a .store)) (a .row) (now (a .tables)) (a .who) (a .link) (a .p) (now (a .bytes)) (a .rq) (now (a .d))) (now (a .out)) _ _ (sym (c .before .before .before .before .admit-request .ensures) ∙ c .before .before .a .given .1) (c .with-record .ensures .0) (c .with-record .ensures .1)
 
 enum-told : tie.Need-enum-told
 enum-told c = search needs
@@ -66,7 +66,7 @@ process-spec =
     (tie.spec
     admit-request-requires
     enum-known-a
-    refused-requires
+    with-record-requires
     same-length
     same-length-2
     returns

@@ -17,8 +17,8 @@ enum-known-rq c = search needs
 ask-from-requires : tie.Need-ask-from-requires
 ask-from-requires c κs = (c .before .before .before .before .before .before .before .before .before .before .before .pre .0 .0, c .before .before .before .before .before .before .before .before .before .before .before .pre .1 .1)
 
-kept-requires : tie.Need-kept-requires
-kept-requires c κs = search needs
+with-record-requires : tie.Need-with-record-requires
+with-record-requires c κs = search needs
 
 enum-known-rq-2 : tie.Need-enum-known-rq-2
 enum-known-rq-2 c = search needs
@@ -26,8 +26,8 @@ enum-known-rq-2 c = search needs
 find-by-type-value-requires : tie.Need-find-by-type-value-requires
 find-by-type-value-requires c κs = (c .before .before .before .before .before .before .before .before .before .before .pre .0 .0 .right, omega (arith, c .before .before .before .before .before .before .before .before .before .before .pre .1 .1))
 
-kept-requires-2 : tie.Need-kept-requires-2
-kept-requires-2 c κs = search needs
+with-record-requires-2 : tie.Need-with-record-requires-2
+with-record-requires-2 c κs = search needs
 
 enum-known-rq-3 : tie.Need-enum-known-rq-3
 enum-known-rq-3 c = search needs
@@ -38,14 +38,14 @@ change-requires c κs = (c .before .before .before .before .before .before .befo
 enum-told : tie.Need-enum-told
 enum-told c = search needs
 
-kept-requires-3 : tie.Need-kept-requires-3
-kept-requires-3 c κs = search needs
+with-record-requires-3 : tie.Need-with-record-requires-3
+with-record-requires-3 c κs = search needs
 
 enum-told-2 : tie.Need-enum-told-2
 enum-told-2 c = search needs
 
-kept-requires-4 : tie.Need-kept-requires-4
-kept-requires-4 c κs = search needs
+with-record-requires-4 : tie.Need-with-record-requires-4
+with-record-requires-4 c κs = search needs
 
 same-length : tie.Need-same-length
 same-length c = search needs
@@ -65,7 +65,7 @@ returns c =
     let s = lent (now (a .list)) (now (a .store)) (now (a .tables)) in
     let v = viewOf (a .link) (now (a .list)) (now (a .store)) (tableAt (now (a .tables)) (a .slot)) (pendingOf (a .p) (now (a .bytes))) in
     let l = ask-leaves (a .link) s (a .slot) v (a .p) (now (a .bytes)) (now (a .d)) (length (now (a .out))) (a .rq) _ (c .before .before .before .before .before .before .before .before .before .rq .given .1) in
-    (c .kept .ensures .0 ∙ l .record-is, l .bytes-are, l .lent-is, answered-as _ _ _ _ _ (rw (c .kept .ensures .1) (answered _ _ _ _ (c .before .before .before .ask-from .ensures))) (l .tells))
+    (c .with-record .ensures .0 ∙ l .record-is, l .bytes-are, l .lent-is, answered-as _ _ _ _ _ (rw (c .with-record .ensures .1) (answered _ _ _ _ (c .before .before .before .ask-from .ensures))) (l .tells))
 
 same-length-5 : tie.Need-same-length-5
 same-length-5 c = search needs
@@ -82,7 +82,7 @@ returns-2 c =
     let s = lent (now (a .list)) (now (a .store)) (now (a .tables)) in
     let v = viewOf (a .link) (now (a .list)) (now (a .store)) (tableAt (now (a .tables)) (a .slot)) (pendingOf (a .p) (now (a .bytes))) in
     let l = find-leaves (a .link) s (a .slot) v (a .p) (now (a .bytes)) (now (a .d)) (length (now (a .out))) (a .rq) _ _ (c .before .before .before .before .before .before .before .before .rq2 .given .1) in
-    (c .kept2 .ensures .0 ∙ l .record-is, l .bytes-are, l .lent-is, answered-as _ _ _ _ _ (rw (c .kept2 .ensures .1) (answered _ _ _ _ (c .before .before .before .find-by-type-value .ensures))) (l .tells))
+    (c .with-record2 .ensures .0 ∙ l .record-is, l .bytes-are, l .lent-is, answered-as _ _ _ _ _ (rw (c .with-record2 .ensures .1) (answered _ _ _ _ (c .before .before .before .find-by-type-value .ensures))) (l .tells))
 
 same-length-8 : tie.Need-same-length-8
 same-length-8 c = search needs
@@ -114,7 +114,7 @@ returns-4 c =
     let s = lent (now (a .list)) (now (a .store)) (now (a .tables)) in
     let v = viewOf (a .link) (now (a .list)) (now (a .store)) (tableAt (now (a .tables)) (a .slot)) (pendingOf (a .p) (now (a .bytes))) in
     let l = mtu-leaves (a .link) s (a .slot) v (a .p) (now (a .bytes)) (now (a .d)) (length (now (a .out))) (a .rq) _ (c .before .enum-told .given .1) in
-    (c .kept3 .ensures .0 ∙ l .record-is, l .bytes-are, l .lent-is, answered-as _ _ _ _ _ (rw (c .kept3 .ensures .1) (silent _)) (l .tells))
+    (c .with-record3 .ensures .0 ∙ l .record-is, l .bytes-are, l .lent-is, answered-as _ _ _ _ _ (rw (c .with-record3 .ensures .1) (silent _)) (l .tells))
 
 returns-5 : tie.Need-returns-5
 returns-5 c =
@@ -122,7 +122,7 @@ returns-5 c =
     let s = lent (now (a .list)) (now (a .store)) (now (a .tables)) in
     let v = viewOf (a .link) (now (a .list)) (now (a .store)) (tableAt (now (a .tables)) (a .slot)) (pendingOf (a .p) (now (a .bytes))) in
     let l = confirmation-leaves (a .link) s (a .slot) v (a .p) (now (a .bytes)) (now (a .d)) (length (now (a .out))) (a .rq) (c .before .enum-told2 .given .1) in
-    (c .kept4 .ensures .0 ∙ l .record-is, l .bytes-are, l .lent-is, answered-as _ _ _ _ _ (rw (c .kept4 .ensures .1) (silent _)) (l .tells))
+    (c .with-record4 .ensures .0 ∙ l .record-is, l .bytes-are, l .lent-is, answered-as _ _ _ _ _ (rw (c .with-record4 .ensures .1) (silent _)) (l .tells))
 
 pub answer-spec : {M : Type 1} → statement M
 answer-spec =
@@ -130,16 +130,16 @@ answer-spec =
     (tie.spec
     enum-known-rq
     ask-from-requires
-    kept-requires
+    with-record-requires
     enum-known-rq-2
     find-by-type-value-requires
-    kept-requires-2
+    with-record-requires-2
     enum-known-rq-3
     change-requires
     enum-told
-    kept-requires-3
+    with-record-requires-3
     enum-told-2
-    kept-requires-4
+    with-record-requires-4
     same-length
     same-length-2
     same-length-3

@@ -5,7 +5,7 @@ use Rattle.model.proofs.Sending.{answered, answered-as, silent}
 use Rattle.model.specs.Change.{lent}
 use Rattle.model.specs.View.{viewOf, tableAt, pendingOf}
 use denote.Ref.{now}
-use mathlib.Core.Path.{refl}
+use mathlib.Core.Path.{refl, _∙_}
 use native.Mathlib.Omega.{arith}
 use borrow.Author.Needs.{needs}
 use Rattle.writing.proofs.inner.change.Statement.{statement}
@@ -20,11 +20,17 @@ write-requires c κs = c .before .before .before .before .before .before .before
 done-response-requires : tie.Need-done-response-requires
 done-response-requires c κs = c .before .before .before .before .before .before .before .before .before .before .before .before .before .before .before .before .pre .1 .1
 
+with-record-requires : tie.Need-with-record-requires
+with-record-requires c κs = search needs
+
 enum-known-rq-2 : tie.Need-enum-known-rq-2
 enum-known-rq-2 c = search needs
 
 write-requires-2 : tie.Need-write-requires-2
 write-requires-2 c κs = c .before .before .before .before .before .before .before .before .before .before .pre .0 .0
+
+with-record-requires-2 : tie.Need-with-record-requires-2
+with-record-requires-2 c κs = search needs
 
 enum-known-rq-3 : tie.Need-enum-known-rq-3
 enum-known-rq-3 c = search needs
@@ -41,6 +47,12 @@ commit-requires c κs = (c .before .before .before .before .before .before .befo
 done-response-requires-2 : tie.Need-done-response-requires-2
 done-response-requires-2 c κs = c .before .before .before .before .before .before .before .before .before .before .before .before .before .before .before .before .before .pre .1 .1
 
+no-record-requires : tie.Need-no-record-requires
+no-record-requires c κs = search needs
+
+with-record-requires-3 : tie.Need-with-record-requires-3
+with-record-requires-3 c κs = search needs
+
 same-length : tie.Need-same-length
 same-length c = search needs
 
@@ -55,11 +67,11 @@ same-length-4 c = search needs
 
 returns : tie.Need-returns
 returns c =
-    let a = c .before .before .before .before .before .before .before .before .before .before .before .before .before .before .before .before .before .before .before .args in
+    let a = c .before .before .before .before .before .before .before .before .before .before .before .before .before .before .before .before .before .before .before .before .args in
     let s = lent (now (a .list)) (now (a .store)) (now (a .tables)) in
     let v = viewOf (a .link) (now (a .list)) (now (a .store)) (tableAt (now (a .tables)) (a .slot)) (pendingOf (a .p) (now (a .bytes))) in
-    let l = write-leaves (a .link) s (a .slot) v (a .p) (now (a .bytes)) (now (a .d)) (a .rq) _ _ _ _ _ (c .before .before .before .before .before .before .before .before .before .before .before .before .before .rq .given .1) (c .before .before .before .before .before .before .before .before .write .ensures .0) (c .before .before .before .before .before .before .before .before .write .ensures .1) in
-    (l .record-is, l .bytes-are, l .lent-is, answered-as _ _ _ _ _ (answered _ _ _ _ (c .before .before .done-response .ensures)) (l .tells))
+    let l = write-leaves (a .link) s (a .slot) v (a .p) (now (a .bytes)) (now (a .d)) (a .rq) _ _ _ _ _ (c .before .before .before .before .before .before .before .before .before .before .before .before .before .before .rq .given .1) (c .before .before .before .before .before .before .before .before .before .write .ensures .0) (c .before .before .before .before .before .before .before .before .before .write .ensures .1) in
+    (c .with-record .ensures .0 ∙ l .record-is, l .bytes-are, l .lent-is, answered-as _ _ _ _ _ (rw (c .with-record .ensures .1) (answered _ _ _ _ (c .before .before .before .done-response .ensures))) (l .tells))
 
 same-length-5 : tie.Need-same-length-5
 same-length-5 c = search needs
@@ -72,11 +84,11 @@ same-length-7 c = search needs
 
 returns-2 : tie.Need-returns-2
 returns-2 c =
-    let a = c .before .before .before .before .before .before .before .before .before .before .before .before .before .before .before .args in
+    let a = c .before .before .before .before .before .before .before .before .before .before .before .before .before .before .before .before .args in
     let s = lent (now (a .list)) (now (a .store)) (now (a .tables)) in
     let v = viewOf (a .link) (now (a .list)) (now (a .store)) (tableAt (now (a .tables)) (a .slot)) (pendingOf (a .p) (now (a .bytes))) in
-    let l = command-leaves (a .link) s (a .slot) v (a .p) (now (a .bytes)) (now (a .d)) (a .rq) _ _ _ _ (c .before .before .before .before .before .before .before .before .before .rq2 .given .1) (c .before .before .before .before .write2 .ensures .1) in
-    (l .record-is, l .bytes-are, l .lent-is, answered-as _ _ _ _ _ (silent _) (l .tells))
+    let l = command-leaves (a .link) s (a .slot) v (a .p) (now (a .bytes)) (now (a .d)) (a .rq) _ _ _ _ (c .before .before .before .before .before .before .before .before .before .before .rq2 .given .1) (c .before .before .before .before .before .write2 .ensures .1) in
+    (c .with-record2 .ensures .0 ∙ l .record-is, l .bytes-are, l .lent-is, answered-as _ _ _ _ _ (rw (c .with-record2 .ensures .1) (silent _)) (l .tells))
 
 same-length-8 : tie.Need-same-length-8
 same-length-8 c = search needs
@@ -109,11 +121,11 @@ same-length-14 c = search needs
 
 returns-4 : tie.Need-returns-4
 returns-4 c =
-    let a = c .before .before .before .before .before .before .before .before .before .before .before .before .before .before .before .before .before .before .before .before .args in
+    let a = c .before .before .before .before .before .before .before .before .before .before .before .before .before .before .before .before .before .before .before .before .before .before .args in
     let s = lent (now (a .list)) (now (a .store)) (now (a .tables)) in
     let v = viewOf (a .link) (now (a .list)) (now (a .store)) (tableAt (now (a .tables)) (a .slot)) (pendingOf (a .p) (now (a .bytes))) in
-    let l = execute-leaves (a .link) s (a .slot) v (a .p) (now (a .bytes)) (now (a .d)) (a .rq) _ _ _ _ _ (c .before .before .before .before .before .before .before .before .before .before .before .before .before .before .rq4 .given .1) (c .before .before .before .before .before .before .before .before .commit .ensures .0) (c .before .before .before .before .before .before .before .before .commit .ensures .1) in
-    (l .record-is, l .bytes-are, l .lent-is, answered-as _ _ _ _ _ (answered _ _ _ _ (c .before .before .done-response2 .ensures)) (l .tells))
+    let l = execute-leaves (a .link) s (a .slot) v (a .p) (now (a .bytes)) (now (a .d)) (a .rq) _ _ _ _ _ (c .before .before .before .before .before .before .before .before .before .before .before .before .before .before .before .before .rq4 .given .1) (c .before .before .before .before .before .before .before .before .before .before .commit .ensures .0) (c .before .before .before .before .before .before .before .before .before .before .commit .ensures .1) in
+    (c .with-record3 .ensures .0 ∙ c .before .no-record .ensures ∙ l .record-is, l .bytes-are, l .lent-is, answered-as _ _ _ _ _ (rw (c .with-record3 .ensures .1) (answered _ _ _ _ (c .before .before .before .before .done-response2 .ensures))) (l .tells))
 
 pub change-spec : {M : Type 1} → statement M
 change-spec =
@@ -122,13 +134,17 @@ change-spec =
     enum-known-rq
     write-requires
     done-response-requires
+    with-record-requires
     enum-known-rq-2
     write-requires-2
+    with-record-requires-2
     enum-known-rq-3
     prepare-requires
     enum-known-rq-4
     commit-requires
     done-response-requires-2
+    no-record-requires
+    with-record-requires-3
     same-length
     same-length-2
     same-length-3
