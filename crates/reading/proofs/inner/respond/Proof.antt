@@ -26,7 +26,7 @@ same-length : tie.Need-same-length
 same-length c = search needs
 
 returns : tie.Need-returns
-returns c = sent-as _ _ _ _ _ (c .before .before .error-response2 .ensures) (past-end _ _ _ _ (c .before .before .before .before .before .before .v2 .given .1) (c .before .before .before .before .before .before .before .before .before .before .before .pre .1) _ _ _ _ _ (c .before .before .before .before .if1 .taken))
+returns c = sent-as _ _ _ _ _ (c .before .before .error-response2 .ensures) (past-end _ _ _ _ (c .before .before .before .before .before .before .v2 .given .1) (c .before .before .before .before .before .before .before .before .before .before .before .pre .1) _ _ _ _ _ (omega (arith, c .before .before .before .before .if1 .taken)))
 
 sub-least : tie.Need-sub-least
 sub-least c = search needs
