@@ -19,7 +19,7 @@ fn print_pairs(d: &[u8])
     requires { ⌜ length (now d) ≤ 256 ⌝ }
 {
     let mut line = [0u8; 512];
-    text::hex(d, &mut line);
+    text::inner::hex(d, &mut line);
     let n = 2 * d.len();
     print(&line[..n]);
 }

@@ -1,4 +1,4 @@
--- `text::hex` meets its contract. The loop's invariant is residual: to write what is left of d from here gives what writing all of it gives. Assumes nothing.
+-- `text::inner::hex` meets its contract. The loop's invariant is residual: to write what is left of d from here gives what writing all of it gives. Assumes nothing.
 use mathlib.Core.Path.{_≡_, refl}
 use Prim.Native.Nat.{_*_, _-_, _≤_}
 use native.Mathlib.Omega.{arith}
@@ -6,8 +6,8 @@ use lib.ListN.{length, drop, length-set}
 use lib.Seq.{sets}
 use Rattle.text.specs.Hex.{hexOf}
 use Rattle.text.proofs.Laws.{pair, no-more}
-use Rattle.text.proofs.hex.Statement.{statement}
-use Rattle.text.proofs.hex.Tie as tie
+use Rattle.text.proofs.inner.hex.Statement.{statement}
+use Rattle.text.proofs.inner.hex.Tie as tie
 
 abbrev Inv-loop : tie.InvT-loop
 Inv-loop d out₀ i₀ out i = (i ≤ length d) × ((length out ≡ length out₀) × (sets out (2 * i) (hexOf (drop i d)) ≡ sets out₀ 0 (hexOf d)))

@@ -1,9 +1,9 @@
--- `text::digit` meets its contract: a digit, or a letter. Assumes nothing.
+-- `text::inner::digit` meets its contract: a digit, or a letter. Assumes nothing.
 use borrow.Author.Needs.{needs}
 use borrow.Author.Tests.{lt-ltb, le-ltb}
 use Rattle.text.specs.Hex.{digitOf}
-use Rattle.text.proofs.digit.Statement.{statement}
-use Rattle.text.proofs.digit.Tie as tie
+use Rattle.text.proofs.inner.digit.Statement.{statement}
+use Rattle.text.proofs.inner.digit.Tie as tie
 
 add-result : tie.Need-add-result
 add-result c = search needs
