@@ -1,7 +1,7 @@
 -- The calls on values, one law for each way through them. Assumes nothing.
 use mathlib.Core.Path.{_≡_, refl, _∙_}
 use mathlib.Core.Bool.{true, false, not}
-use mathlib.Core.List.{List, [], _∷_}
+use mathlib.Core.List.{List, []}
 use Prim.Native.Nat.{ℕ}
 use native.Mathlib.Omega.{arith}
 use lib.Dec.{eqb}
@@ -14,7 +14,6 @@ use Rattle.attribute.specs.declared.Attribute.{Attribute}
 use Rattle.attribute.specs.declared.Access.{Access}
 use Rattle.reading.specs.Copy.{copiedOf, copyOf}
 use Rattle.reading.specs.declared.Copied.{Copied}
-use Rattle.values.specs.Locate.{Ready as ReadReady}
 use Rattle.model.specs.Value.{Got, Bytes, Code, readOf, writeOf}
 use Rattle.model.specs.View.{tableAt}
 use Rattle.model.specs.Told.{toldAnswer, Answered}
@@ -22,17 +21,7 @@ use Rattle.model.specs.Change.{lent, Left, putAt}
 use Rattle.model.specs.declared.Answer.{Answer}
 use Rattle.model.specs.declared.Answer.the-variants as answer
 use Rattle.model.proofs.Sending.{answered}
-use Rattle.storing.specs.Ready.{Ready}
-use Rattle.storing.proofs.Tables.{no-entries, slot-accepts}
 use Rattle.application.specs.Calls.{answerCopied, gotTold, fetchTold, isWrongLength, storeTold, storeLeft}
-
--- the peer's own table, as reading asks for it
-module _ (list : List (List ℕ)) (store : ℕ) (ts : List (List ℕ)) (slot : Found) (r : Ready list store ts slot) where
-  pub own-table : (k : ℕ) → slot ≡ At k → ReadReady list store (getD ts k [])
-  own-table k e = record { right = r .right; table = slot-accepts ts slot (r .own) k e }
-
-  pub empty-table : ReadReady list store (0 ∷ 0 ∷ 0 ∷ 0 ∷ [])
-  empty-table = record { right = r .right; table = no-entries }
 
 -- `get`: what is copied is what is told
 copy-told : (old : List ℕ) (g : Got) → Answered old (copyOf old g) (answerCopied (copiedOf (length old) g)) (gotTold (length old) g)

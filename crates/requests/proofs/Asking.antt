@@ -1,10 +1,7 @@
--- The requests that only read: each as its handler answers it, and the table that it is given. Assumes nothing.
+-- The requests that only read: each as its handler answers it. Assumes nothing.
 use mathlib.Core.Path.{_≡_, refl, ap, _∙_}
-use mathlib.Core.List.{List, [], _∷_, map}
+use mathlib.Core.List.{List, map}
 use Prim.Native.Nat.{ℕ}
-use lib.ListN.{getD}
-use Rattle.wire.specs.declared.Found.{Found}
-use Rattle.wire.specs.declared.Found.the-variants.{At}
 use Rattle.attribute.specs.Record.{Entry, entryOf}
 use Rattle.attribute.specs.Lookup.{entriesOf}
 use Rattle.attribute.specs.declared.Link.{Link}
@@ -16,9 +13,6 @@ use Rattle.model.specs.declared.Range.{Range}
 use Rattle.model.specs.declared.Ask.{Ask}
 use Rattle.model.specs.declared.Ask.the-variants.{FindInformation, ReadByType, ReadByGroupType, Read, ReadBlob, ReadMultiple}
 use Rattle.model.proofs.Running.{map-map}
-use Rattle.values.specs.Locate.{Ready as ReadReady}
-use Rattle.storing.specs.Ready.{Ready}
-use Rattle.storing.proofs.Tables.{no-entries, slot-accepts}
 
 -- the entries of a view are the list's
 same-entry : (link : Link) (store t r : List ℕ) → seenBy link store t r .entry ≡ entryOf r
@@ -55,11 +49,3 @@ module _ (l : List Seen) (room : ℕ) (rq : Ask) (d : List ℕ) where
   pub asks-multiple : rq ≡ ReadMultiple → multipleRsp d ≡ askRsp l room rq d
   unfolding askRsp
   asks-multiple e = rw e
-
--- the peer's own table
-module _ (list : List (List ℕ)) (store : ℕ) (ts : List (List ℕ)) (slot : Found) (r : Ready list store ts slot) where
-  pub own-table : (k : ℕ) → slot ≡ At k → ReadReady list store (getD ts k [])
-  own-table k e = record { right = r .right; table = slot-accepts ts slot (r .own) k e }
-
-  pub empty-table : ReadReady list store (0 ∷ 0 ∷ 0 ∷ 0 ∷ [])
-  empty-table = record { right = r .right; table = no-entries }

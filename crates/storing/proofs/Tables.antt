@@ -11,7 +11,8 @@ use Rattle.wire.specs.declared.Found.{Found}
 use Rattle.wire.specs.declared.Found.the-variants.{At, Nothing}
 use Rattle.table_view.specs.Rules.{accepts, indexOk, valuesOk}
 use Rattle.model.specs.View.{tableAt}
-use Rattle.storing.specs.Ready.{SlotReady}
+use Rattle.values.specs.Locate.{Ready as ReadReady}
+use Rattle.storing.specs.Ready.{SlotReady, Ready}
 
 pub no-entries : accepts (0 ∷ 0 ∷ 0 ∷ 0 ∷ []) ≡ true
 unfolding accepts both indexOk valuesOk word
@@ -32,3 +33,11 @@ module _ (ts : List (List ℕ)) (slot : Found) where
 
     pub slot-accepts : accepts (getD ts k []) ≡ true
     slot-accepts = r .tables .read k (r .inside k e)
+
+-- as reading asks for it
+module _ (list : List (List ℕ)) (store : ℕ) (ts : List (List ℕ)) (slot : Found) (r : Ready list store ts slot) where
+  pub own-table : (k : ℕ) → slot ≡ At k → ReadReady list store (getD ts k [])
+  own-table k e = record { right = r .right; table = slot-accepts ts slot (r .own) k e }
+
+  pub empty-table : ReadReady list store (0 ∷ 0 ∷ 0 ∷ 0 ∷ [])
+  empty-table = record { right = r .right; table = no-entries }

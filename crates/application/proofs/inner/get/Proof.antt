@@ -7,8 +7,8 @@ use Rattle.wire.specs.declared.Found.the-variants.{At}
 use Rattle.attribute.specs.Lookup.{placeOf}
 use Rattle.model.specs.View.{tableAt}
 use Rattle.storing.proofs.Writing.{listed}
-use Rattle.storing.proofs.Tables.{slot-there, table-there, table-none}
-use Rattle.application.proofs.Calls.{own-table, empty-table, not-listed, fetched}
+use Rattle.storing.proofs.Tables.{slot-there, table-there, table-none, own-table, empty-table}
+use Rattle.application.proofs.Calls.{not-listed, fetched}
 use Rattle.application.proofs.inner.get.Statement.{statement}
 use Rattle.application.proofs.inner.get.Tie as tie
 

@@ -1,6 +1,5 @@
 -- `requests::inner::ask_from` meets its contract. The table of the slot, or the one without entries. Assumes nothing.
-use Rattle.storing.proofs.Tables.{table-there, table-none}
-use Rattle.requests.proofs.Asking.{own-table, empty-table}
+use Rattle.storing.proofs.Tables.{table-there, table-none, own-table, empty-table}
 use Rattle.model.proofs.Sending.{sent-as}
 use Rattle.model.specs.Answer.{askRsp}
 use Rattle.model.specs.View.{seenAll}
