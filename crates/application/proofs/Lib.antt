@@ -1,3 +1,4 @@
 pub mod Calls
 pub mod Peers
+pub mod Leaving
 pub mod Valid

@@ -11,32 +11,25 @@ use Rattle.client_att_table.specs.SetValues.{afterSet}
 use Rattle.client_att_table.specs.AsList.{setValues, bytesAfter}
 use Rattle.client_att_table.proofs.Frame.{Kept}
 use Rattle.client_att_table.proofs.AsList.{call-kept}
-use Rattle.attribute.specs.Record.{attributeOf}
 use Rattle.attribute.specs.Lookup.{placeOf}
 use Rattle.peers.specs.Identity.{isBad}
 use Rattle.peers.specs.Slots.{slotOf}
 use Rattle.peers.specs.declared.Identity.{Identity}
 use Rattle.peers.specs.declared.Slot.{Slot}
 use Rattle.state.specs.Valid.{valid}
-use Rattle.model.specs.Change.{Lent, putAt}
-use Rattle.storing.proofs.Writing.{listed}
+use Rattle.model.specs.Change.{Lent}
 use Rattle.storing.proofs.Valid.{put-valid, kept-valid}
-use Rattle.application.specs.Calls.{isWrongLength, storeLeft, restoredAt, restored}
+use Rattle.application.specs.Calls.{storeLeft, restoredAt, restored}
+use Rattle.application.proofs.Leaving.{set-leaves}
 
 -- `set`
 module _ (s : Lent) (row : List Slot) (who : Identity) (v : valid (s .list) (length (s .store)) row (s .tables) ≡ true) (good : isBad who ≡ false)
     (records : (i : ℕ) → i < length (s .list) → length (getD (s .list) i []) ≡ 32) (sized : (i : ℕ) → i < 8 → length (getD (s .tables) i []) ≡ 640) where
   pub store-valid : (h : ℕ) (d : List ℕ)
       → valid (storeLeft s (slotOf row who) (placeOf (s .list) h) d .list) (length (storeLeft s (slotOf row who) (placeOf (s .list) h) d .store)) row (storeLeft s (slotOf row who) (placeOf (s .list) h) d .tables) ≡ true
-  store-valid h d = by (placeOf (s .list) h) refl
-    where
-      put : (i : ℕ) → i < length (s .list) → (t : Bool) → valid (cond t s (putAt s (slotOf row who) i 0 d) .list) (length (cond t s (putAt s (slotOf row who) i 0 d) .store)) row (cond t s (putAt s (slotOf row who) i 0 d) .tables) ≡ true
-      put i l true = v
-      put i l false = put-valid s row who v good records sized i l 0 d
-
-      by : (f : Found) → placeOf (s .list) h ≡ f → valid (storeLeft s (slotOf row who) f d .list) (length (storeLeft s (slotOf row who) f d .store)) row (storeLeft s (slotOf row who) f d .tables) ≡ true
-      by Nothing e = v
-      by (At i) e = put i (listed (s .list) h i e) (isWrongLength (attributeOf (getD (s .list) i [])) (length d))
+  store-valid h d =
+      set-leaves s (slotOf row who) d (λ l. valid (l .list) (length (l .store)) row (l .tables) ≡ true) v
+      (λ i l. put-valid s row who v good records sized i l 0 d) h
 
 -- `set_client_att_table`
 values-kept : (saved t : List ℕ) → accepts t ≡ true → Kept t (afterSet saved t)

@@ -10,7 +10,7 @@ use borrow.Author.Tests.{le-leb, eq-eqb}
 use Rattle.wire.specs.Number.{wordBytes}
 use Rattle.wire.proofs.Tests.{both-l, both-r, both-true}
 use Rattle.wire.proofs.Sets.{past, drop-past, word-before, word-same}
-use Rattle.attribute.specs.Record.{attributeOf, uuidOf, withLength}
+use Rattle.attribute.specs.Record.{attributeOf, uuidOf, withLength, entryOf}
 use Rattle.attribute.specs.Rules.{fieldsOk, rangeOk, entryOk, endAfter, entriesOk, listOk}
 use Rattle.attribute.specs.declared.Attribute.{Attribute}
 
@@ -39,6 +39,11 @@ module _ (r : List ℕ) (n : ℕ) where
         past (wordBytes n) r 6 9 (omega arith),
         past (wordBytes n) r 6 10 (omega arith),
       )
+
+  -- and so what every link may know of the entry
+  pub known-kept : length r ≡ 32 → entryOf (withLength r n) ≡ entryOf r
+  unfolding entryOf
+  known-kept l = rw (fields-kept l, uuid-kept)
 
 -- a length that an entry may have: a variable value's at most its capacity, any value's its capacity
 pub record Holds (a : Attribute) (n : ℕ) : Type 0 where

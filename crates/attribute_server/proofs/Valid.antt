@@ -20,13 +20,14 @@ use Rattle.state.specs.Valid.{valid, recordOk, validWith}
 use Rattle.state.specs.declared.Prepared.{Prepared}
 use Rattle.state.proofs.Calls.{connect-valid as connected-valid, disconnect-valid as parted-valid}
 use Rattle.model.specs.View.{Pending}
-use Rattle.model.specs.Answer.{prepareRule, isDue}
-use Rattle.model.specs.Change.{Lent, lent, ifGranted, written, lentAfter, lentBy, noRecord, longer, mayPrepare, recordAfter, recordBy}
+use Rattle.model.specs.Answer.{prepareRule}
+use Rattle.model.specs.Change.{Lent, lent, ifGranted, lentBy, noRecord, longer, mayPrepare, recordAfter, recordBy}
 use Rattle.model.specs.declared.Request.{Request}
 use Rattle.model.specs.declared.Request.the-variants as request
 use Rattle.model.specs.declared.Change.{Change}
 use Rattle.model.specs.declared.Change.the-variants.{Write, WriteCommand, PrepareWrite, ExecuteWrite}
-use Rattle.storing.proofs.Valid.{written-valid}
+use Rattle.model.proofs.Leaving.{request-leaves}
+use Rattle.storing.proofs.Valid.{put-valid}
 use Rattle.application.specs.Calls.{storeLeft, restored}
 use Rattle.application.proofs.Valid.{store-valid, restore-valid as taken-in-valid}
 use Rattle.writing.proofs.Preparing.{granted-fits}
@@ -46,7 +47,7 @@ keeps true false false P x x′ y y′ old new = new (record { right = refl; buf
 keeps false b p P x x′ y y′ old new = old
 
 -- the same of one thing that a call leaves
-keeps-one : {A : Type 0} (v b p : Bool) (P : A → Type 0) (x x′ : A) → P x → (Admitted v b p → P x′) → P (leftIf (admissionBy v b p) x x′)
+pub keeps-one : {A : Type 0} (v b p : Bool) (P : A → Type 0) (x x′ : A) → P x → (Admitted v b p → P x′) → P (leftIf (admissionBy v b p) x x′)
 keeps-one v b p P x x′ old new = keeps v b p (λ s t. P s) x x′ x x′ old new
 
 -- `connect`, `disconnect` and `set_client_att_table`
@@ -80,27 +81,11 @@ module _ (list : List (List ℕ)) (store : List ℕ) (row : List Slot) (ts : Lis
 module _ (s : Lent) (row : List Slot) (who : Identity) (v : valid (s .list) (length (s .store)) row (s .tables) ≡ true) (good : isBad who ≡ false)
     (records : (i : ℕ) → i < length (s .list) → length (getD (s .list) i []) ≡ 32) (sized : (i : ℕ) → i < 8 → length (getD (s .tables) i []) ≡ 640)
     (link : Link) (w : Pending) (d : List ℕ) where
-  executed-valid : (t : Bool)
-      → valid (cond t (written link s (slotOf row who) (w .handle) (w .offset) (w .bytes)) s .list) (length (cond t (written link s (slotOf row who) (w .handle) (w .offset) (w .bytes)) s .store)) row (cond t (written link s (slotOf row who) (w .handle) (w .offset) (w .bytes)) s .tables) ≡ true
-  executed-valid true = written-valid s row who v good records sized link (w .handle) (w .offset) (w .bytes)
-  executed-valid false = v
-
-  changed-valid : (c : Change)
-      → valid (lentAfter link s (slotOf row who) w c d .list) (length (lentAfter link s (slotOf row who) w c d .store)) row (lentAfter link s (slotOf row who) w c d .tables) ≡ true
-  unfolding lentAfter
-  changed-valid (Write h) = written-valid s row who v good records sized link h 0 d
-  changed-valid (WriteCommand h) = written-valid s row who v good records sized link h 0 d
-  changed-valid (PrepareWrite h off) = v
-  changed-valid (ExecuteWrite flags) = executed-valid (isDue w flags)
-
   asked-valid : (rq : Request)
       → valid (lentBy link s (slotOf row who) w rq d .list) (length (lentBy link s (slotOf row who) w rq d .store)) row (lentBy link s (slotOf row who) w rq d .tables) ≡ true
-  unfolding lentBy
-  asked-valid (request.Ask a) = v
-  asked-valid (request.FindByTypeValue g uuid) = v
-  asked-valid (request.Change c) = changed-valid c
-  asked-valid (request.ExchangeMtu mtu) = v
-  asked-valid request.Confirmation = v
+  asked-valid rq =
+      request-leaves link s (slotOf row who) (λ l. valid (l .list) (length (l .store)) row (l .tables) ≡ true) v
+      (λ i l m off e. put-valid s row who v good records sized i l off e) w rq d
 
 -- and the prepared write: what Prepare takes has a handle and at most 512 bytes
 granted-handle : (p : Prepared) (h off n : ℕ) → mayPrepare p h off n ≡ Granted → eqb h 0 ≡ false
@@ -111,7 +96,7 @@ granted-handle p h off n e = by (eqb h 0) _ e
     by true x e = cc
     by false x e = refl
 
-none-ok : recordOk noRecord ≡ true
+pub none-ok : recordOk noRecord ≡ true
 unfolding recordOk both
 none-ok = refl
 

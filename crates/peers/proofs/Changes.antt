@@ -36,6 +36,11 @@ module _ (i : ℕ) (row : List Slot) (s : Slot) (ts : List (List ℕ)) where
         table = λ j o. getD-set-other ts i j (cleared (getD ts i [])) [] o;
       }
 
+  -- another table of a slot
+  pub table-set : (t : List ℕ) → OnlyAt i row row ts (set ts i t)
+  table-set t =
+      record { slots = refl; tables = length-set ts i t; slot = λ j o. refl; table = λ j o. getD-set-other ts i j t [] o }
+
   pub new-slot : i < length row → getD (set row i s) i noSlot ≡ s
   new-slot h = getD-set-same row i s noSlot h
 

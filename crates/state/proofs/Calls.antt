@@ -3,14 +3,15 @@ use mathlib.Core.Path.{_≡_, refl}
 use mathlib.Core.Bool.{Bool, true, false, cond}
 use mathlib.Core.List.{List, []}
 use Prim.Native.Nat.{ℕ, _≤_, _<_}
+use native.Mathlib.Omega.{arith}
 use lib.ListN.{length, getD, replicate, getD-replicate}
-use lib.Dec.{ltb}
-use borrow.Author.Tests.{eq-eqb, le-leb}
+use lib.Dec.{leb, ltb, eqb}
+use borrow.Author.Tests.{eq-eqb, le-leb, leb-true}
 use Rattle.wire.specs.Test.{both}
-use Rattle.wire.specs.Bytes.{zeros}
 use Rattle.wire.specs.declared.Found.{Found}
 use Rattle.wire.specs.declared.Found.the-variants.{At, Nothing}
-use Rattle.wire.proofs.Tests.{both-true}
+use Rattle.wire.proofs.Tests.{both-r, both-true}
+use Rattle.table_view.specs.Told.{done, refused}
 use Rattle.attribute.specs.Rules.{listOk}
 use Rattle.peers.specs.Identity.{isEmpty, isBad}
 use Rattle.peers.specs.Slots.{slotOf, choiceOf, taken, rowBy, rowAfter, tablesAfter, nobody, left, leftBy, clearedBy, rowLeft, tablesLeft, noSlot}
@@ -18,8 +19,9 @@ use Rattle.peers.specs.declared.Identity.{Identity}
 use Rattle.peers.specs.declared.Slot.{Slot}
 use Rattle.peers.specs.declared.Choice.{Choice}
 use Rattle.peers.specs.declared.Choice.the-variants.{Take, Retake, Full}
+use Rattle.peers.proofs.Identities.{nobody-empty}
 use Rattle.peers.proofs.Laws.{take-inside, retake-inside, slot-inside}
-use Rattle.state.specs.Fresh.{freshTable, tableSize, emptyRow}
+use Rattle.state.specs.Fresh.{freshTable, tableSize, emptyRow, newTold, tablesNew}
 use Rattle.state.specs.Valid.{valid}
 use Rattle.state.proofs.Answers.{fresh-length, fresh-builder}
 use Rattle.state.proofs.Each.{slots-by}
@@ -34,10 +36,6 @@ good-somebody who h = by (isEmpty who) h
     by true h = cc
     by false h = refl
 
-nobody-empty : isEmpty nobody ≡ true
-unfolding isEmpty zeros both
-nobody-empty = refl
-
 -- a fresh hub is valid
 pub new-valid : (list : List (List ℕ)) (store : ℕ) → listOk list store ≡ true → tableSize list ≤ 640 → valid list store emptyRow (replicate 8 (freshTable list)) ≡ true
 unfolding valid
@@ -50,6 +48,27 @@ new-valid list store l s =
     (λ i h.
     rw (getD-replicate 8 i (record { id = nobody; connected = 0 }) noSlot h, getD-replicate 8 i f [] h)
     (nobodys f (fresh-length list) (fresh-builder list) (record { id = nobody; connected = 0 }) nobody-empty)))))
+
+-- and so is what `new` makes, where it says done
+told-done : (a b : Bool) → cond a (cond b done (refused 6)) (refused 1) ≡ done → (a ≡ true) × (b ≡ true)
+told-done true true e = (refl, refl)
+told-done true false e = let z : _≡_ {A = ℕ} 0 1 = cc in absurd (omega arith)
+told-done false b e = let z : _≡_ {A = ℕ} 0 1 = cc in absurd (omega arith)
+
+module _ (list : List (List ℕ)) (store : ℕ) (ts : List (List ℕ)) (e : newTold list store (length ts) ≡ done) where
+  tests : (both (eqb (length ts) 8) (listOk list store) ≡ true) × (leb (tableSize list) 640 ≡ true)
+  unfolding newTold
+  tests = told-done _ _ e
+
+  made : tablesNew list store ts ≡ replicate 8 (freshTable list)
+  unfolding tablesNew
+  made = rw (tests .0, tests .1)
+
+  pub made-valid : valid list store emptyRow (tablesNew list store ts) ≡ true
+  made-valid = rw made (new-valid list store (both-r _ _ (tests .0)) (leb-true _ _ (tests .1)))
+
+  pub made-sized : (i : ℕ) → i < 8 → length (getD (tablesNew list store ts) i []) ≡ 640
+  made-sized i h = rw (made, getD-replicate 8 i (freshTable list) [] h) (fresh-length list)
 
 module _ (list : List (List ℕ)) (store : ℕ) (row : List Slot) (ts : List (List ℕ)) (v : valid list store row ts ≡ true)
     (sized : (i : ℕ) → i < 8 → length (getD ts i []) ≡ 640) (who : Identity) where

@@ -159,8 +159,16 @@ module _ (list : List (List ℕ)) (store : ℕ) (row : List Slot) (ts : List (Li
       (both-true _ _ right-list (both-true _ _ (le-leb _ _ table-fits) h))
 
   module _ (sized : (i : ℕ) → i < 8 → length (getD ts i []) ≡ 640) (i : ℕ) (hi : i < length row) where
-    inside : i < 8
+    pub inside : i < 8
     inside = let n = slots-count (freshTable list) row ts right-slots in let m = eight-tables in omega arith
+
+    -- nobody's table is the fresh one, and so is one that is cleared
+    pub nobodys-table : isEmpty (getD row i noSlot .id) ≡ true → getD ts i [] ≡ freshTable list
+    unfolding slotOk
+    nobodys-table e = alike-eq _ _ (rw e at (both-r _ _ (slot-at (freshTable list) row ts right-slots i hi)))
+
+    pub cleared-table : cleared (getD ts i []) ≡ freshTable list
+    cleared-table = clear-fresh (freshTable list) (fresh-length list) (fresh-builder list) (getD ts i []) (sized i inside) (laid-at i inside)
 
     -- a slot with another owner or flag, and its table as it was
     slot-valid : (s : Slot) → slotOk (freshTable list) s (getD ts i []) ≡ true → valid list store (set row i s) ts ≡ true
@@ -193,4 +201,4 @@ module _ (list : List (List ℕ)) (store : ℕ) (row : List Slot) (ts : List (Li
     emptied-valid s e =
         let f = freshTable list in
         cleared-valid s
-        (rw (clear-fresh f (fresh-length list) (fresh-builder list) (getD ts i []) (sized i inside) (laid-at i inside)) (nobodys f (fresh-length list) (fresh-builder list) s e))
+        (rw cleared-table (nobodys f (fresh-length list) (fresh-builder list) s e))

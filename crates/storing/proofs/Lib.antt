@@ -3,3 +3,4 @@ pub mod Owning
 pub mod Writing
 pub mod Tables
 pub mod Valid
+pub mod Shared

@@ -1,17 +1,15 @@
 -- Valid in, valid out: a write keeps a valid state valid. A shared value's length stays within its capacity, and a client
 -- value's table keeps its header, its index and the zeros after its end. Assumes nothing.
-use mathlib.Core.Path.{_≡_, refl, _∙_}
+use mathlib.Core.Path.{_≡_, refl, ap, _∙_}
 use mathlib.Core.Bool.{Bool, true, false, cond}
 use mathlib.Core.List.{List, [], _∷_}
 use Prim.Native.Nat.{ℕ, zero, suc, _+_, _≤_, _<_}
 use native.Mathlib.Omega.{arith}
 use lib.ListN.{length, getD, set, length-set}
-use lib.Seq.{sets, length-sets, getD-set-same, getD-set-other}
-use borrow.Author.Tests.{eqb-true}
+use lib.Seq.{sets, length-sets, getD-set-same}
 use Rattle.wire.specs.declared.Found.{Found}
 use Rattle.wire.specs.declared.Found.the-variants.{At, Nothing}
 use Rattle.wire.proofs.Tests.{both-l, both-r, both-true}
-use Rattle.wire.proofs.Fold.{alike-eq}
 use Rattle.wire.proofs.Walk.{placed}
 use Rattle.table_view.specs.Rules.{accepts}
 use Rattle.client_att_table.specs.Write.{afterWrite}
@@ -19,18 +17,16 @@ use Rattle.client_att_table.specs.AsList.{write, bytesAfter}
 use Rattle.client_att_table.proofs.Frame.{Kept}
 use Rattle.client_att_table.proofs.AsList.{call-kept}
 use Rattle.attribute.specs.Record.{attributeOf, withLength}
-use Rattle.attribute.specs.Lookup.{placeOf}
-use Rattle.attribute.specs.Needs.{mayWrite}
 use Rattle.attribute.specs.declared.Attribute.{Attribute}
 use Rattle.attribute.specs.declared.Access.{Access}
 use Rattle.attribute.specs.declared.Access.the-variants.{Granted, Denied}
-use Rattle.attribute.specs.declared.Link.{Link}
 use Rattle.attribute.proofs.Kept.{Holds, fields-kept, variable-holds, length-kept}
-use Rattle.peers.specs.Identity.{sameId, isEmpty, isBad}
+use Rattle.peers.specs.Identity.{isEmpty, isBad}
 use Rattle.peers.specs.Slots.{matches, slotOf, noSlot}
 use Rattle.peers.specs.declared.Identity.{Identity}
 use Rattle.peers.specs.declared.Slot.{Slot}
-use Rattle.peers.proofs.Changes.{OnlyAt}
+use Rattle.peers.proofs.Changes.{table-set}
+use Rattle.peers.proofs.Identities.{same-is}
 use Rattle.state.specs.Fresh.{clientsOf, freshTable, spaceOf, entriesSize}
 use Rattle.state.specs.Valid.{valid}
 use Rattle.state.proofs.Answers.{fresh-length, fresh-builder}
@@ -38,9 +34,8 @@ use Rattle.state.proofs.Each.{slots-count, slot-changed}
 use Rattle.state.proofs.Keeping.{somebody, laid-accepts, kept-laid, eight-tables, right-list, right-slots, laid-at, with-slots}
 use Rattle.state.proofs.Calls.{good-somebody}
 use Rattle.model.specs.Value.{writeRule}
-use Rattle.model.specs.Change.{Lent, ifGranted, lengthPut, sharedList, sharedStore, ownTables, putAt, writtenAt, written}
+use Rattle.model.specs.Change.{Lent, ifGranted, lengthPut, sharedList, sharedStore, ownTables, putAt}
 use Rattle.storing.proofs.Putting.{has-room}
-use Rattle.storing.proofs.Writing.{listed}
 
 -- a list with another present length of one entry lays out the same table
 module _ (n : ℕ) where
@@ -59,15 +54,6 @@ module _ (n : ℕ) where
   fresh-same : (list : List (List ℕ)) (i : ℕ) → length (getD list i []) ≡ 32 → freshTable (set list i (withLength (getD list i []) n)) ≡ freshTable list
   unfolding freshTable
   fresh-same list i l = rw (clients-same list i l)
-
--- whoever has the same identity is empty too
-same-empty : (a b : Identity) → sameId a b ≡ true → isEmpty a ≡ isEmpty b
-unfolding sameId isEmpty
-same-empty a b h = rw (eqb-true (a .kind) (b .kind) (both-l _ _ h), alike-eq (a .addr) (b .addr) (both-r _ _ h))
-
-table-set : (i : ℕ) (row : List Slot) (ts : List (List ℕ)) (t : List ℕ) → OnlyAt i row row ts (set ts i t)
-table-set i row ts t =
-    record { slots = refl; tables = length-set ts i t; slot = λ j o. refl; table = λ j o. getD-set-other ts i j t [] o }
 
 table-kept : (t : List ℕ) → accepts t ≡ true → (h off : ℕ) (d : List ℕ) → Kept t (afterWrite t h off d)
 unfolding bytesAfter
@@ -108,9 +94,9 @@ module _ (list : List (List ℕ)) (store : ℕ) (row : List Slot) (ts : List (Li
         let m = eight-tables list store row ts v in
         let t = getD ts k [] in
         let laid = laid-at list store row ts v k (omega (arith, w .inside)) in
-        let here = somebody fresh (getD row k noSlot) out (kept-laid fresh (fresh-length list) (fresh-builder list) t (sized k (omega (arith, w .inside))) laid out (kept (laid-accepts fresh t laid))) (same-empty (getD row k noSlot .id) who (w .passes) ∙ good-somebody who good) in
+        let here = somebody fresh (getD row k noSlot) out (kept-laid fresh (fresh-length list) (fresh-builder list) t (sized k (omega (arith, w .inside))) laid out (kept (laid-accepts fresh t laid))) (ap isEmpty (same-is (getD row k noSlot .id) who (w .passes)) ∙ good-somebody who good) in
         with-slots list store row ts v row (set ts k out) (length-set ts k out)
-        (slot-changed fresh k row row ts (set ts k out) (table-set k row ts out) (right-slots list store row ts v) (rw (getD-set-same ts k out [] (omega (arith, w .inside))) here))
+        (slot-changed fresh k row row ts (set ts k out) (table-set k row noSlot ts out) (right-slots list store row ts v) (rw (getD-set-same ts k out [] (omega (arith, w .inside))) here))
 
     own-valid : (h off : ℕ) (d : List ℕ) (f : Found) → slotOf row who ≡ f → valid list store row (ownTables ts f h off d) ≡ true
     unfolding ownTables
@@ -125,7 +111,7 @@ store-length store a off d = by (writeRule (a .len) (a .cap) off (length d))
     by Granted = length-sets store (a .start + off) d
     by (Denied c) = refl
 
--- a write by place and by handle
+-- a write by place
 module _ (s : Lent) (row : List Slot) (who : Identity) (v : valid (s .list) (length (s .store)) row (s .tables) ≡ true) (good : isBad who ≡ false)
     (records : (i : ℕ) → i < length (s .list) → length (getD (s .list) i []) ≡ 32) (sized : (i : ℕ) → i < 8 → length (getD (s .tables) i []) ≡ 640) where
   pub put-valid : (i : ℕ) → i < length (s .list) → (off : ℕ) (d : List ℕ)
@@ -138,15 +124,3 @@ module _ (s : Lent) (row : List Slot) (who : Identity) (v : valid (s .list) (len
       by false =
           rw (store-length (s .store) (attributeOf (getD (s .list) i [])) off d)
           (shared-valid (s .list) (length (s .store)) row (s .tables) v i off (length d) (records i l))
-
-  pub written-valid : (link : Link) (h off : ℕ) (d : List ℕ)
-      → valid (written link s (slotOf row who) h off d .list) (length (written link s (slotOf row who) h off d .store)) row (written link s (slotOf row who) h off d .tables) ≡ true
-  written-valid link h off d = by (placeOf (s .list) h) refl
-    where
-      met : (i : ℕ) → i < length (s .list) → (r : Access) → valid (ifGranted r (putAt s (slotOf row who) i off d) s .list) (length (ifGranted r (putAt s (slotOf row who) i off d) s .store)) row (ifGranted r (putAt s (slotOf row who) i off d) s .tables) ≡ true
-      met i l Granted = put-valid i l off d
-      met i l (Denied c) = v
-
-      by : (f : Found) → placeOf (s .list) h ≡ f → valid (writtenAt link s (slotOf row who) f off d .list) (length (writtenAt link s (slotOf row who) f off d .store)) row (writtenAt link s (slotOf row who) f off d .tables) ≡ true
-      by Nothing e = v
-      by (At i) e = met i (listed (s .list) h i e) (mayWrite (attributeOf (getD (s .list) i [])) link)

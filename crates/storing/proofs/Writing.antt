@@ -2,15 +2,14 @@
 use mathlib.Core.Path.{_≡_, refl, sym, _∙_}
 use mathlib.Core.Bool.{Bool, true, false, cond}
 use mathlib.Core.List.{List, []}
-use Prim.Native.Nat.{ℕ, _+_, _≤_, _<_}
+use Prim.Native.Nat.{ℕ, _<_}
 use native.Mathlib.Omega.{arith}
-use lib.ListN.{length, getD, take, drop, length-drop}
+use lib.ListN.{length, getD, drop, length-drop}
 use lib.Seq.{length-take-le}
 use Rattle.wire.specs.declared.Found.{Found}
 use Rattle.wire.specs.declared.Found.the-variants.{At, Nothing}
-use Rattle.wire.proofs.Walk.{placed}
 use Rattle.attribute.specs.Record.{attributeOf}
-use Rattle.attribute.specs.Lookup.{placeOf, hasHandle}
+use Rattle.attribute.specs.Lookup.{placeOf}
 use Rattle.attribute.specs.Needs.{mayWrite}
 use Rattle.attribute.specs.Rules.{listOk}
 use Rattle.attribute.specs.declared.Attribute.{Attribute}
@@ -25,8 +24,13 @@ use Rattle.model.proofs.Looking.{seen-at, seen-nowhere}
 use Rattle.storing.proofs.Putting.{Put}
 
 -- a shared value has as many bytes as its entry says
-shared-length : (store : List ℕ) (a : Attribute) → a .start + a .cap ≤ length store → a .len ≤ a .cap → length (take (a .len) (drop (a .start) store)) ≡ a .len
-shared-length store a h k = length-take-le (a .len) (drop (a .start) store) (rw (length-drop (a .start) store) (omega arith))
+pub item-length : (list : List (List ℕ)) (store : List ℕ) → listOk list (length store) ≡ true → (i : ℕ) → i < length list → attributeOf (getD list i []) .client ≡ false
+    → length (sharedItem store (attributeOf (getD list i [])) .value) ≡ attributeOf (getD list i []) .len
+unfolding sharedItem
+item-length list store ok i l c =
+    let a = attributeOf (getD list i []) in
+    let g = shared list (length store) ok i l c in
+    length-take-le (a .len) (drop (a .start) store) (rw (length-drop (a .start) store) (omega (arith, g .inside, g .len)))
 
 second : {A : Type 0} (t : Bool) (x y : A) → t ≡ false → y ≡ cond t x y
 second t x y e = rw e
@@ -48,8 +52,7 @@ module _ (list : List (List ℕ)) (store : List ℕ) (ts : List (List ℕ)) (slo
   unfolding writeOf atValue sharedItem putAt
   shared-put l ok t r list′ store′ p =
       let u = rw is at t in
-      let g = shared list (length store) ok i l u in
-      let m = shared-length store (attributeOf (getD list i [])) (g .inside) (g .len) in (
+      let m = item-length list store ok i l u in (
         p .0 ∙ rw (u, m),
         record {
           list-is = p .1 ∙ second (attributeOf (getD list i []) .client) _ _ u;
@@ -58,10 +61,7 @@ module _ (list : List (List ℕ)) (store : List ℕ) (ts : List (List ℕ)) (slo
         },
       )
 
--- by handle: a place that is found is one of the list
-pub listed : (list : List (List ℕ)) (h i : ℕ) → placeOf list h ≡ At i → i < length list
-listed list h i e = placed (hasHandle h) [] list 0 i e .inside
-
+-- by handle
 module _ (link : Link) (list : List (List ℕ)) (store : List ℕ) (ts : List (List ℕ)) (slot : Found) (h off : ℕ) (d : List ℕ) where
   pub not-listed : placeOf list h ≡ Nothing
       → (Denied 0x0A ≡ writeAt h off (length d) (seenAll link list store (tableAt ts slot))) × Left (written link (lent list store ts) slot h off d) list store ts

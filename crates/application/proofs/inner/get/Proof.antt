@@ -6,7 +6,7 @@ use denote.Ref.{now}
 use Rattle.wire.specs.declared.Found.the-variants.{At}
 use Rattle.attribute.specs.Lookup.{placeOf}
 use Rattle.model.specs.View.{tableAt}
-use Rattle.storing.proofs.Writing.{listed}
+use Rattle.model.proofs.Leaving.{listed}
 use Rattle.storing.proofs.Tables.{slot-there, table-there, table-none, own-table, empty-table}
 use Rattle.application.proofs.Calls.{not-listed, fetched}
 use Rattle.application.proofs.inner.get.Statement.{statement}

@@ -4,7 +4,7 @@ use borrow.Author.Needs.{needs}
 use denote.Ref.{now}
 use Rattle.wire.specs.declared.Found.the-variants.{At}
 use Rattle.attribute.specs.Lookup.{placeOf}
-use Rattle.storing.proofs.Writing.{listed}
+use Rattle.model.proofs.Leaving.{listed}
 use Rattle.application.proofs.Calls.{nothing-set, wrong-length, value-set}
 use Rattle.application.proofs.inner.set.Statement.{statement}
 use Rattle.application.proofs.inner.set.Tie as tie

@@ -10,7 +10,8 @@ use Rattle.attribute.specs.Record.{attributeOf}
 use Rattle.attribute.specs.Lookup.{placeOf}
 use Rattle.attribute.specs.Needs.{mayWrite}
 use Rattle.attribute.specs.declared.Attribute.{Attribute}
-use Rattle.storing.proofs.Writing.{not-listed, listed, not-met, met}
+use Rattle.model.proofs.Leaving.{listed}
+use Rattle.storing.proofs.Writing.{not-listed, not-met, met}
 use denote.Ref.{now}
 use Rattle.storing.proofs.inner.write.Statement.{statement}
 use Rattle.storing.proofs.inner.write.Tie as tie

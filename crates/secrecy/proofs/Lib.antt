@@ -1,0 +1,10 @@
+pub mod Promised
+pub mod Sizes
+pub mod Valid
+pub mod Apart
+pub mod Written
+pub mod Kept
+pub mod Shared
+pub mod Waiting
+pub mod Agree
+pub mod Secret

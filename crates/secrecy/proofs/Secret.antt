@@ -1,0 +1,160 @@
+-- Demand 3, by induction over the calls. Assumes nothing.
+use mathlib.Core.Path.{_≡_, refl, sym, ap, ap₂, subst, _∙_}
+use mathlib.Core.Bool.{Bool, true, false, cond}
+use mathlib.Core.List.{List, [], _∷_, _++_}
+use Rattle.wire.specs.Run.{afterAll}
+use Prim.Native.Nat.{ℕ, _<_}
+use lib.ListN.{length, getD}
+use Rattle.wire.specs.declared.Found.{Found}
+use Rattle.wire.specs.declared.Found.the-variants.{At, Nothing}
+use Rattle.wire.proofs.Tests.{both-l, both-r, both-true}
+use Rattle.wire.proofs.Walk.{placed}
+use Rattle.table_view.specs.Told.{Told}
+use Rattle.table_view.specs.View.{view}
+use Rattle.attribute.specs.Record.{attributeOf}
+use Rattle.attribute.specs.Needs.{accessOf}
+use Rattle.attribute.specs.declared.Access.{Access}
+use Rattle.attribute.specs.declared.Access.the-variants.{Granted, Denied}
+use Rattle.peers.specs.Identity.{sameId}
+use Rattle.peers.specs.Slots.{matches, slotOf, noSlot}
+use Rattle.peers.specs.declared.Identity.{Identity}
+use Rattle.state.proofs.Keeping.{right-list}
+use Rattle.model.specs.View.{View, ownTable, tableAt, seenAll}
+use Rattle.model.specs.Answer.{requestTold}
+use Rattle.model.specs.Told.{Answered}
+use Rattle.model.specs.declared.Request.{Request}
+use Rattle.model.specs.declared.Request.the-variants as request
+use Rattle.model.proofs.Hidden.{Alike, all-seen-same}
+use Rattle.attribute_server.specs.Admission.{toldIf}
+use Rattle.attribute_server.specs.Request.{seenOf}
+use Rattle.secrecy.specs.Hub.{Hub, Asked, Deed, Process, Connect, Disconnect, Get, Set, CanRead, CanWrite, ShouldNotify, ShouldIndicate, GetTable, SetTable, Call, meeting, toldBy, told, step}
+use Rattle.secrecy.specs.Valid.{Valid}
+use Rattle.secrecy.specs.Secret.{isCompared, isRequest, asks, heard, isGranted, reaches, everReaches, Agree, Secrecy, requestOf, SecretAnswers}
+use Rattle.peers.proofs.Identities.{same-is, same-self}
+use Rattle.storing.proofs.Writing.{item-length}
+use Rattle.model.proofs.Telling.{one-answered}
+use Rattle.secrecy.proofs.Valid.{step-valid, all-valid}
+use Rattle.secrecy.proofs.Promised.{process-is}
+use Rattle.secrecy.proofs.Agree.{let-in-same, step-agrees}
+
+-- every answer but Find By Type Value's comes from the view
+by-view : (v : View) (list list′ : List (List ℕ)) (store store′ : List ℕ) (room : ℕ) (rq : Request) (d : List ℕ) → isCompared rq ≡ true → requestTold v list store room rq d ≡ requestTold v list′ store′ room rq d
+unfolding requestTold isCompared
+by-view v list list′ store store′ room (request.Ask a) d e = refl
+by-view v list list′ store store′ room (request.FindByTypeValue g uuid) d e = cc
+by-view v list list′ store store′ room (request.Change c) d e = refl
+by-view v list list′ store store′ room (request.ExchangeMtu mtu) d e = refl
+by-view v list list′ store store′ room request.Confirmation d e = refl
+
+-- t's request, on two hubs that agree: one view, one answer
+module _ (t : Identity) (may : ℕ → Bool) (a b : Hub) (x : Valid a) (y : Valid b) (g : Agree t may a b) where
+  own-same : view (ownTable (a .row) (a .tables) t) ≡ view (ownTable (b .row) (b .tables) t)
+  unfolding tableAt
+  own-same = rw (← g .row) (by (slotOf (a .row) t) refl)
+    where
+      by : (f : Found) → slotOf (a .row) t ≡ f → view (tableAt (a .tables) f) ≡ view (tableAt (b .tables) f)
+      by Nothing e = refl
+      by (At k) e = g .kept k (placed (matches t) noSlot (a .row) 0 k e .passes)
+
+  module _ (q : Asked) (reach : (need : ℕ) → accessOf (q .level) 0x02 need ≡ Granted → may need ≡ true) where
+    alike : (i : ℕ) → i < length (a .list) → Alike (q .level) (getD (a .list) i []) (a .store) (b .store) (ownTable (a .row) (a .tables) t) (ownTable (b .row) (b .tables) t) own-same
+    alike i l =
+        record {
+          value = λ m c. g .shared i l c (reach (attributeOf (getD (a .list) i []) .reads) m);
+          size =
+              λ c.
+              item-length (a .list) (a .store) (right-list _ _ _ _ (x .state)) i l c
+              ∙ sym (rw (g .list) (item-length (b .list) (b .store) (right-list _ _ _ _ (y .state)) i (rw (← g .list) l) (rw (← g .list) c)));
+        }
+
+    seen-same : seenOf (meeting a t q) ≡ seenOf (meeting b t q)
+    seen-same =
+        λ i.
+        record {
+          attrs = (all-seen-same (q .level) (a .list) (a .store) (b .store) _ _ own-same alike ∙ ap (λ (list : List (List ℕ)). seenAll (q .level) list (b .store) (ownTable (b .row) (b .tables) t)) (g .list)) i;
+          pending = g .waiting (q .link) .pending i;
+        }
+
+    answer-same : isCompared (q .request) ≡ true → toldBy a t (Process q) ≡ toldBy b t (Process q)
+    unfolding toldBy
+    answer-same e =
+        ap₂ toldIf (let-in-same a b x y t q)
+        (by-view (seenOf (meeting a t q)) (a .list) (b .list) (a .store) (b .store) (q .room) (q .request) (q .brings) e
+        ∙ ap (λ (v : View). requestTold v (b .list) (b .store) (q .room) (q .request) (q .brings)) seen-same)
+
+-- a request is one of t's
+granted : (r : Access) → r ≡ Granted → isGranted r ≡ true
+granted Granted e = refl
+granted (Denied c) e = cc
+
+told-same : (t : Identity) (may : ℕ → Bool) (a b : Hub) → Valid a → Valid b → Agree t may a b → (d : Deed) → ((need : ℕ) → isRequest (λ q. isGranted (accessOf (q .level) 0x02 need)) d ≡ true → may need ≡ true)
+    → isRequest (λ q. isCompared (q .request)) d ≡ true → toldBy a t d ≡ toldBy b t d
+unfolding isRequest
+told-same t may a b x y g (Process q) reach e = answer-same t may a b x y g q (λ need r. reach need (granted _ r)) e
+told-same t may a b x y g Connect reach e = cc
+told-same t may a b x y g (Disconnect bonded) reach e = cc
+told-same t may a b x y g (Get h room) reach e = cc
+told-same t may a b x y g (Set h d) reach e = cc
+told-same t may a b x y g (CanRead link h) reach e = cc
+told-same t may a b x y g (CanWrite link h) reach e = cc
+told-same t may a b x y g (ShouldNotify h) reach e = cc
+told-same t may a b x y g (ShouldIndicate h) reach e = cc
+told-same t may a b x y g GetTable reach e = cc
+told-same t may a b x y g (SetTable saved) reach e = cc
+
+-- agreement on fewer values
+fewer : (t : Identity) (may less : ℕ → Bool) (a b : Hub) → ((need : ℕ) → less need ≡ true → may need ≡ true) → Agree t may a b → Agree t less a b
+fewer t may less a b w g =
+    record { list = g .list; row = g .row; waiting = g .waiting; shared = λ i l c m. g .shared i l c (w _ m); kept = g .kept }
+
+-- what a link meets in a call is met among the calls
+now-or-later : (u v : Bool) → v ≡ true → cond u true v ≡ true
+now-or-later true v h = refl
+now-or-later false v h = h
+
+later-reaches : (t : Identity) (c : Call) (cs : List Call) (need : ℕ) → everReaches t cs need ≡ true → everReaches t (c ∷ cs) need ≡ true
+unfolding everReaches
+later-reaches t c cs need h = now-or-later (reaches t need c) (everReaches t cs need) h
+
+now-reaches : (t : Identity) (c : Call) (cs : List Call) (need : ℕ) → reaches t need c ≡ true → everReaches t (c ∷ cs) need ≡ true
+unfolding everReaches
+now-reaches t c cs need h = rw h
+
+-- one call, and those after it
+after-one : (t : Identity) (c : Call) (cs : List Call) (a b : Hub) → Valid a → Valid b → Agree t (everReaches t (c ∷ cs)) a b → Agree t (everReaches t cs) (step a c) (step b c)
+after-one t c cs a b x y g =
+    fewer t (everReaches t (c ∷ cs)) (everReaches t cs) (step a c) (step b c) (later-reaches t c cs) (step-agrees t (everReaches t (c ∷ cs)) c a b x y g)
+
+told-now : (t : Identity) (c : Call) (cs : List Call) (a b : Hub) → Valid a → Valid b → Agree t (everReaches t (c ∷ cs)) a b → asks t c ≡ true → told a c ≡ told b c
+told-now t c cs a b x y g e =
+    let who = both-l (sameId (c .who) t) _ e in
+    rw (same-is (c .who) t who)
+    (told-same t (everReaches t (c ∷ cs)) a b x y g (c .deed) (λ need r. now-reaches t c cs need (both-true _ _ who r)) (both-r (sameId (c .who) t) _ e))
+
+one-more : (z : Bool) (u v : Told) (us vs : List Told) → (z ≡ true → u ≡ v) → us ≡ vs → cond z (u ∷ us) us ≡ cond z (v ∷ vs) vs
+one-more true u v us vs e more = ap₂ _∷_ (e refl) more
+one-more false u v us vs e more = more
+
+pub secrecy : Secrecy
+unfolding heard
+secrecy t [] a b x y g = refl
+secrecy t (c ∷ cs) a b x y g =
+    one-more (asks t c) (told a c) (told b c) _ _ (told-now t c cs a b x y g)
+    (secrecy t cs (step a c) (step b c) (step-valid a c x) (step-valid b c y) (after-one t c cs a b x y g))
+
+-- the same of one request after the calls, and of whatever meets the promise
+after-all : (t : Identity) (calls rest : List Call) (a b : Hub) → Valid a → Valid b → Agree t (everReaches t (calls ++ rest)) a b → Agree t (everReaches t rest) (afterAll step a calls) (afterAll step b calls)
+unfolding afterAll
+after-all t [] rest a b x y g = g
+after-all t (c ∷ cs) rest a b x y g =
+    after-all t cs rest (step a c) (step b c) (step-valid a c x) (step-valid b c y) (after-one t c (cs ++ rest) a b x y g)
+
+pub secret-answers : SecretAnswers
+unfolding isRequest
+secret-answers t calls q a b x y g e out n r r′ p p′ =
+    let c = requestOf t q in
+    let a₁ = afterAll step a calls in
+    let b₁ = afterAll step b calls in
+    let one : told a₁ c ≡ told b₁ c = told-now t c [] a₁ b₁ (all-valid a x calls) (all-valid b y calls) (after-all t calls (c ∷ []) a b x y g) (both-true _ _ (same-self t) e) in
+    let same = one-answered out (r .out) (r′ .out) (r .changed .answer) (r′ .changed .answer) (told b₁ c) (subst (Answered out (r .out) (r .changed .answer)) one (process-is a₁ t q out n r p .0)) (process-is b₁ t q out n r′ p′ .0) in
+    (same .answer, same .out)

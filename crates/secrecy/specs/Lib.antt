@@ -1,0 +1,4 @@
+pub mod Hub
+pub mod Valid
+pub mod Secret
+pub mod Untouched

@@ -1,0 +1,118 @@
+-- Demand 3: two hubs that agree on all that tablet t may see, given the same calls in the same order, answer every request of t with the same
+-- bytes and count. Assumes nothing.
+use Prim.Native.Nat.{ℕ, _<_}
+use mathlib.Core.Path.{_≡_}
+use mathlib.Core.Bool.{Bool, true, false, cond}
+use mathlib.Core.List.{List, [], _∷_, _++_}
+use lib.ListN.{length, getD}
+use Rattle.wire.specs.Test.{both}
+use Rattle.wire.specs.Run.{afterAll}
+use Rattle.table_view.specs.View.{view}
+use Rattle.table_view.specs.Told.{Told}
+use Rattle.attribute.specs.Record.{attributeOf}
+use Rattle.attribute.specs.Needs.{accessOf}
+use Rattle.attribute.specs.declared.Attribute.{Attribute}
+use Rattle.attribute.specs.declared.Access.{Access}
+use Rattle.peers.specs.Identity.{sameId}
+use Rattle.peers.specs.Slots.{matches, noSlot}
+use Rattle.peers.specs.declared.Identity.{Identity}
+use Rattle.model.specs.Value.{sharedItem}
+use Rattle.model.specs.View.{ifMet, pendingOf}
+use Rattle.model.specs.declared.Request.{Request}
+use Rattle.model.specs.declared.Request.the-variants as request
+use Rattle.writing.specs.declared.Changed.{Changed}
+use Rattle.attribute_server.specs.Request.{Processed}
+use Rattle.secrecy.specs.Hub.{Waiting, Hub, Asked, Deed, Process, Connect, Disconnect, Get, Set, CanRead, CanWrite, ShouldNotify, ShouldIndicate, GetTable, SetTable, Call, meeting, told, step}
+use Rattle.secrecy.specs.Valid.{Valid}
+
+-- THE EXCEPTION: the answer to Find By Type Value is not compared, since it looks at every shared value, whoever asks
+unfoldable pub isCompared : Request → Bool
+isCompared (request.Ask a) = true
+isCompared (request.FindByTypeValue g uuid) = false
+isCompared (request.Change c) = true
+isCompared (request.ExchangeMtu mtu) = true
+isCompared request.Confirmation = true
+
+-- a test of a request, false of every other call
+unfoldable pub isRequest : (Asked → Bool) → Deed → Bool
+isRequest p (Process q) = p q
+isRequest p Connect = false
+isRequest p (Disconnect bonded) = false
+isRequest p (Get h room) = false
+isRequest p (Set h d) = false
+isRequest p (CanRead link h) = false
+isRequest p (CanWrite link h) = false
+isRequest p (ShouldNotify h) = false
+isRequest p (ShouldIndicate h) = false
+isRequest p GetTable = false
+isRequest p (SetTable saved) = false
+
+-- a request is t's where it carries t's identity
+abbrev pub asks : Identity → Call → Bool
+asks t c = both (sameId (c .who) t) (isRequest (λ q. isCompared (q .request)) (c .deed))
+
+-- what t hears, in order: each answer, with its bytes, and each refusal
+unfoldable pub heard : Identity → Hub → List Call → List Told
+heard t s [] = []
+heard t s (c ∷ cs) = cond (asks t c) (told s c ∷ heard t (step s c) cs) (heard t (step s c) cs)
+
+-- is this a request of t's over a link that meets a need for reading? and is there one among the calls?
+abbrev pub isGranted : Access → Bool
+isGranted a = ifMet a true (λ c. false)
+
+abbrev pub reaches : Identity → ℕ → Call → Bool
+reaches t need c = both (sameId (c .who) t) (isRequest (λ q. isGranted (accessOf (q .level) 0x02 need)) (c .deed))
+
+unfoldable pub everReaches : Identity → List Call → ℕ → Bool
+everReaches t [] need = false
+everReaches t (c ∷ cs) need = cond (reaches t need c) true (everReaches t cs need)
+
+-- the same prepared write; the bytes past its length may differ
+pub record SameWaiting (x y : Waiting) : Type 0 where
+  pub prepared : x .prepared ≡ y .prepared
+  pub pending : pendingOf (x .prepared) (x .bytes) ≡ pendingOf (y .prepared) (y .bytes)
+
+abbrev pub attributeAt : Hub → ℕ → Attribute
+attributeAt s i = attributeOf (getD (s .list) i [])
+
+-- what the two hubs agree on, where t's links meet the needs of `may`
+pub record Agree (t : Identity) (may : ℕ → Bool) (a b : Hub) : Type 0 where
+  -- the attribute list, and with it the lengths of shared values
+  pub list : a .list ≡ b .list
+  -- the tablets' records: identities, connected or not
+  pub row : a .row ≡ b .row
+  -- the prepared writes of every link
+  pub waiting : (i : ℕ) → SameWaiting (a .waiting i) (b .waiting i)
+  -- every shared value that t may read
+  pub shared : (i : ℕ) → i < length (a .list) → attributeAt a i .client ≡ false → may (attributeAt a i .reads) ≡ true → sharedItem (a .store) (attributeAt a i) ≡ sharedItem (b .store) (attributeAt a i)
+  -- all values kept for t, in every slot of t's
+  pub kept : (i : ℕ) → matches t (getD (a .row) i noSlot) ≡ true → view (getD (a .tables) i []) ≡ view (getD (b .tables) i [])
+
+abbrev pub Secrecy : Type 0
+Secrecy =
+    (t : Identity) (calls : List Call) (a b : Hub) → Valid a → Valid b → Agree t (everReaches t calls) a b
+    → heard t a calls ≡ heard t b calls
+
+-- The same of the code. What a run of `process` leaves: its answer and every lent byte
+pub record Outcome : Type 0 where
+  pub changed : Changed
+  pub list : List (List ℕ)
+  pub store : List ℕ
+  pub tables : List (List ℕ)
+  pub bytes : List ℕ
+  pub out : List ℕ
+
+-- it meets the promise of `process` for this request, on this hub, with this buffer
+abbrev pub Keeps : Hub → Identity → Asked → List ℕ → Outcome → Type 0
+Keeps s t q out r = Processed (meeting s t q) out (r .changed) (r .list) (r .store) (r .tables) (r .bytes) (r .out)
+
+abbrev pub requestOf : Identity → Asked → Call
+requestOf t q = record { who = t; deed = Process q }
+
+-- after the same calls, runs that meet it answer t alike, and leave the same in one buffer
+abbrev pub SecretAnswers : Type 0
+SecretAnswers =
+    (t : Identity) (calls : List Call) (q : Asked) (a b : Hub) → Valid a → Valid b → Agree t (everReaches t (calls ++ (requestOf t q ∷ []))) a b
+    → isCompared (q .request) ≡ true → (out : List ℕ) → length out ≡ q .room → (r r′ : Outcome)
+    → Keeps (afterAll step a calls) t q out r → Keeps (afterAll step b calls) t q out r′
+    → (r .changed .answer ≡ r′ .changed .answer) × (r .out ≡ r′ .out)
