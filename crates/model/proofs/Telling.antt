@@ -25,7 +25,7 @@ answerOf done = Done
 answerOf none = Nothing
 answerOf (value v) = Value (length v)
 
-front-length : (n : ℕ) (out : List ℕ) → length (front n out) ≡ n
+pub front-length : (n : ℕ) (out : List ℕ) → length (front n out) ≡ n
 front-length n out =
     length-append (take n out) (replicate (n - length out) 0)
     ∙ (omega (arith, length-take n out, length-replicate {A = ℕ} (n - length out) 0))

@@ -74,7 +74,7 @@ fn find_free(row: [Slot; 8]) -> Found
 }
 
 // The slot for a connecting peer.
-fn choose(row: [Slot; 8], who: Identity) -> Choice
+pub fn choose(row: [Slot; 8], who: Identity) -> Choice
     ensures { λ r. ⌜ r ≡ choiceOf row who ⌝ }
 {
     if let Found::At(i) = find_usable(row, who) {

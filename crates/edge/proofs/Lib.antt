@@ -1,0 +1,4 @@
+pub mod Telling
+pub mod Placing
+pub mod Eight
+pub mod Fresh

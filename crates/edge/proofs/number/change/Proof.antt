@@ -1,0 +1,28 @@
+-- `edge::number::change` meets its contract. A law of the test for each branch. Assumes nothing.
+use borrow.Author.Tests.{eq-eqb, ne-eqb}
+use Rattle.edge.specs.Asked.{changeOf}
+use borrow.Author.Needs.{needs}
+use Rattle.edge.proofs.number.change.Statement.{statement}
+use Rattle.edge.proofs.number.change.Tie as tie
+
+returns : tie.Need-returns
+unfolding changeOf
+returns c = rw (eq-eqb _ _ (c .if1 .taken))
+
+returns-2 : tie.Need-returns-2
+unfolding changeOf
+returns-2 c = rw (ne-eqb _ _ (c .before .before .if1 .left), eq-eqb _ _ (c .if2 .taken))
+
+returns-3 : tie.Need-returns-3
+unfolding changeOf
+returns-3 c = rw (ne-eqb _ _ (c .before .before .before .before .if1 .left), ne-eqb _ _ (c .before .before .if2 .left), eq-eqb _ _ (c .if3 .taken))
+
+flags-requires : tie.Need-flags-requires
+flags-requires c κs = search needs
+
+returns-4 : tie.Need-returns-4
+unfolding changeOf
+returns-4 c = rw (ne-eqb _ _ (c .before .before .before .before .before .if1 .left), ne-eqb _ _ (c .before .before .before .if2 .left), ne-eqb _ _ (c .before .if3 .left), c .flags .ensures)
+
+pub change-spec : {M : Type 1} → statement M
+change-spec = tie.close (tie.spec returns returns-2 returns-3 flags-requires returns-4)

@@ -1,0 +1,5 @@
+pub mod Reply
+pub mod Asked
+pub mod Served
+pub mod Place
+pub mod Opening

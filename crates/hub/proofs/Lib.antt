@@ -1,0 +1,4 @@
+pub mod Branch
+pub mod Row
+pub mod Refusing
+pub mod Whole
