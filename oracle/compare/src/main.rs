@@ -1,0 +1,210 @@
+//! Runs the proved library and the Rust original side by side on random hubs and calls.
+//!
+//!     compare [--seed N] [--calls N]
+//!
+//! After each call the answers and the whole states are compared. A difference must be of a kind that `differences.rs`
+//! knows; any other is printed, as the shortest session found that shows it, and the program fails.
+
+mod differences;
+mod generate;
+mod lists;
+mod ours;
+mod pair;
+mod pokes;
+mod random;
+
+use differences::Kind;
+use generate::Calls;
+use lists::List;
+use original::calls::Hex;
+use original::{Answer, Call};
+use pair::{Counts, Pair, Step};
+use random::Random;
+use std::collections::BTreeMap;
+use std::process::ExitCode;
+
+struct Options {
+    seed: u64,
+    calls: u64,
+}
+
+/// A difference of no known kind, and the calls that lead to it.
+struct Fault {
+    seed: u64,
+    list: List,
+    steps: Vec<Step>,
+    what: String,
+}
+
+#[derive(Default)]
+struct Totals {
+    hubs: u64,
+    calls: u64,
+    /// Answers by the word that names the call in a session, then by what kind of answer.
+    answers: BTreeMap<String, BTreeMap<String, u64>>,
+    counts: Counts,
+}
+
+fn main() -> ExitCode {
+    let options = match options() {
+        Ok(options) => options,
+        Err(why) => {
+            eprintln!("compare: {why}\nusage: compare [--seed N] [--calls N]");
+            return ExitCode::from(2);
+        }
+    };
+    let mut totals = Totals::default();
+    let mut seed = options.seed;
+    while totals.calls < options.calls {
+        if let Err(fault) = run_hub(seed, &mut totals) {
+            report(&shrunk(fault));
+            println!("compare: failed after {} calls", totals.calls);
+            return ExitCode::FAILURE;
+        }
+        seed = seed.wrapping_add(1);
+    }
+    print_totals(&options, &totals);
+    ExitCode::SUCCESS
+}
+
+fn options() -> Result<Options, String> {
+    let mut options = Options {
+        seed: 1,
+        calls: 200_000,
+    };
+    let mut words = std::env::args().skip(1);
+    while let Some(word) = words.next() {
+        let number = words
+            .next()
+            .and_then(|text| text.parse().ok())
+            .ok_or(format!("{word} needs a number"))?;
+        match word.as_str() {
+            "--seed" => options.seed = number,
+            "--calls" => options.calls = number,
+            _ => return Err(format!("{word} is no option")),
+        }
+    }
+    Ok(options)
+}
+
+/// One hub: its list and all its calls come from the seed.
+fn run_hub(seed: u64, totals: &mut Totals) -> Result<(), Fault> {
+    let mut random = Random::new(seed);
+    let list = lists::list(&mut random);
+    let mut steps = Vec::new();
+    totals.hubs += 1;
+    match run_steps(&list, random, totals, &mut steps) {
+        Ok(()) => Ok(()),
+        Err(what) => Err(Fault {
+            seed,
+            list,
+            steps,
+            what,
+        }),
+    }
+}
+
+fn run_steps(list: &List, mut random: Random, totals: &mut Totals, steps: &mut Vec<Step>) -> Result<(), String> {
+    totals.calls += 1;
+    let Some(mut pair) = Pair::open(list, &mut totals.counts)? else {
+        return Ok(());
+    };
+    let length = random.pick(&[20, 60, 100, 300]);
+    let mut calls = Calls::new(&list.entries, random);
+    for _ in 0..length {
+        let step = calls.step(&pair.ours, &pair.hub);
+        steps.push(step.clone());
+        let answer = pair.step(&step, &mut totals.counts)?;
+        totals.calls += 1;
+        let answers = totals.answers.entry(word(&step.call)).or_default();
+        *answers.entry(sort(&step.call, &answer)).or_default() += 1;
+    }
+    Ok(())
+}
+
+/// What kind of answer it is.
+fn sort(call: &Call, answer: &Answer) -> String {
+    match (call, answer) {
+        (Call::Process { .. }, Answer::Value(bytes)) if bytes[0] == 0x01 => format!("error {:02X}", bytes[4]),
+        (Call::Process { .. }, Answer::Value(_)) => "response".to_string(),
+        (_, Answer::Value(_)) => "value".to_string(),
+        (_, Answer::Done) => "done".to_string(),
+        (_, Answer::Nothing) => "nothing".to_string(),
+        (_, Answer::Att(code)) => format!("error {code:02X}"),
+        (_, Answer::Refused(number)) => format!("refused {number}"),
+        (_, other) => format!("{other:?}"),
+    }
+}
+
+/// The word that names a call, or its request, in a session.
+fn word(call: &Call) -> String {
+    let text = match call {
+        Call::Process { request, .. } => request.to_string(),
+        call => call.to_string(),
+    };
+    text.split(' ').next().unwrap_or_default().to_string()
+}
+
+/// Leaves out steps without which there still is a fault.
+fn shrunk(mut fault: Fault) -> Fault {
+    let mut at = fault.steps.len();
+    while at > 0 {
+        at -= 1;
+        let mut fewer = fault.steps.clone();
+        fewer.remove(at);
+        if let Some((end, what)) = replay(&fault.list, &fewer) {
+            fewer.truncate(end);
+            at = at.min(end);
+            fault.steps = fewer;
+            fault.what = what;
+        }
+    }
+    fault
+}
+
+/// How many steps lead to a fault, and which.
+fn replay(list: &List, steps: &[Step]) -> Option<(usize, String)> {
+    let mut unused = Counts::default();
+    let mut pair = Pair::open(list, &mut unused).ok()??;
+    let results = steps.iter().map(|step| pair.step(step, &mut unused));
+    results
+        .enumerate()
+        .find_map(|(i, result)| result.err().map(|what| (i + 1, what)))
+}
+
+/// Prints a fault as a session.
+fn report(fault: &Fault) {
+    println!("# a difference of no known kind, from seed {}\nnew", fault.seed);
+    for entry in &fault.list.entries {
+        let kind = match (entry.shared, entry.variable) {
+            (true, true) => "sv",
+            (true, false) => "sf",
+            (false, true) => "cv",
+            (false, false) => "cf",
+        };
+        let (uuid, handle) = (Hex(&entry.uuid), entry.handle);
+        let (read, write, capacity) = (entry.read, entry.write, entry.capacity);
+        let (start, len) = (entry.start, entry.len);
+        println!("attr {handle:X} {uuid} {read:X} {write:X} {kind} {capacity:X} {start:X} {len:X}");
+    }
+    println!("store {}\nopen", Hex(&fault.list.store));
+    fault.steps.iter().for_each(|step| println!("{step}"));
+    println!("# {}", fault.what.replace('\n', "\n# "));
+}
+
+fn print_totals(options: &Options, totals: &Totals) {
+    for (word, answers) in &totals.answers {
+        let count: u64 = answers.values().sum();
+        let sorts: Vec<String> = answers.iter().map(|(sort, count)| format!("{sort} {count}")).collect();
+        println!("{count:>10} {word}: {}", sorts.join(", "));
+    }
+    println!("differences, all of kinds that docs/DIFFERENCES.md lists:");
+    for kind in Kind::ALL {
+        println!("{:>10} {kind}", totals.counts.0.get(&kind).unwrap_or(&0));
+    }
+    let differences: u64 = totals.counts.0.values().sum();
+    println!(
+        "compare: ok, {} calls, {} hubs, seed {}, {differences} listed differences, no other",
+        totals.calls, totals.hubs, options.seed
+    );
+}

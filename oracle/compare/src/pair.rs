@@ -1,0 +1,111 @@
+//! One hub on both sides, driven by the same calls.
+
+use crate::differences::{self, Kind};
+use crate::lists::List;
+use crate::ours::Ours;
+use crate::pokes::Poke;
+use original::{Answer, Call, Hub};
+use std::collections::BTreeMap;
+use std::fmt;
+
+/// A call, and a change from outside before it. A change to a state that is not valid is undone after the call.
+#[derive(Clone)]
+pub struct Step {
+    pub poke: Option<Poke>,
+    pub call: Call,
+}
+
+impl fmt::Display for Step {
+    fn fmt(&self, f: &mut fmt::Formatter<'_>) -> fmt::Result {
+        if let Some(poke) = &self.poke {
+            writeln!(f, "{poke}")?;
+        }
+        self.call.fmt(f)
+    }
+}
+
+/// How often each kind of difference was seen.
+#[derive(Default)]
+pub struct Counts(pub BTreeMap<Kind, u64>);
+
+impl Counts {
+    fn add(&mut self, kinds: impl IntoIterator<Item = Kind>) {
+        for kind in kinds {
+            *self.0.entry(kind).or_default() += 1;
+        }
+    }
+}
+
+pub struct Pair {
+    pub ours: Ours,
+    pub hub: Hub,
+}
+
+impl Pair {
+    /// Opens both; `Ok(None)` where both refuse the list.
+    pub fn open(list: &List, counts: &mut Counts) -> Result<Option<Pair>, String> {
+        let ours = Ours::open(&list.entries, &list.store);
+        if let Some((kind, expected)) = differences::bad_list(list) {
+            counts.add([kind]);
+            return refused_alike(ours, expected);
+        }
+        match (ours, Hub::open(&list.entries, &list.store)) {
+            (Ok(ours), Ok(hub)) => Ok(Some(Pair { ours, hub })),
+            (ours, Err(theirs)) => {
+                counts.add(differences::list_too_long(&theirs));
+                refused_alike(ours, theirs)
+            }
+            (Err(ours), Ok(_)) => Err(format!("open: ours {ours:?}, the Rust opens")),
+        }
+    }
+
+    /// Takes a step on both sides and compares answers and states. Gives the library's answer.
+    pub fn step(&mut self, step: &Step, counts: &mut Counts) -> Result<Answer, String> {
+        let undo = step.poke.as_ref().map(|poke| poke.apply(&mut self.ours, &mut self.hub));
+        let valid = undo.is_none() || self.hub.is_valid_for(&step.call);
+        let answer = self.call(&step.call, valid, counts)?;
+        if let (Some(undo), false) = (undo, valid) {
+            undo.apply(&mut self.ours, &mut self.hub);
+        }
+        Ok(answer)
+    }
+
+    fn call(&mut self, call: &Call, valid: bool, counts: &mut Counts) -> Result<Answer, String> {
+        let (ours, clean) = self.ours.call(call);
+        if !clean {
+            return Err(format!("ours wrote past its answer {ours:02X?}"));
+        }
+        match differences::unknown_refusal(call, valid) {
+            Some((kind, expected)) if ours == expected => counts.add([kind]),
+            Some((_, expected)) => return Err(format!("ours {ours:02X?}, by the requirements {expected:?}")),
+            None => self.compare(call, &ours, counts)?,
+        }
+        match differences::of_states(call, &self.ours, &self.hub) {
+            Some(what) => Err(format!("after the answer {ours:02X?} {what}")),
+            None => Ok(ours),
+        }
+    }
+
+    fn compare(&mut self, call: &Call, ours: &Answer, counts: &mut Counts) -> Result<(), String> {
+        let (theirs, clean) = self.hub.call(call);
+        if *ours != theirs {
+            let kinds = differences::explain(call, &self.hub, ours, &theirs);
+            counts.add(kinds.ok_or_else(|| format!("ours {ours:02X?}\nRust {theirs:02X?}"))?);
+        } else {
+            counts.add(differences::own_error(call, &theirs));
+        }
+        if !clean && !matches!(theirs, Answer::Stopped(_)) {
+            let kind = differences::row_left_behind(call, clean);
+            counts.add([kind.ok_or_else(|| format!("the Rust wrote past its answer {theirs:02X?}"))?]);
+        }
+        Ok(())
+    }
+}
+
+fn refused_alike(ours: Result<Ours, Answer>, expected: Answer) -> Result<Option<Pair>, String> {
+    match ours {
+        Err(answer) if answer == expected => Ok(None),
+        Err(answer) => Err(format!("open: ours {answer:?}, expected {expected:?}")),
+        Ok(_) => Err(format!("open: ours opens, expected {expected:?}")),
+    }
+}
