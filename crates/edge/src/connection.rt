@@ -1,7 +1,7 @@
 // Tablets that come and go: what is answered, and the one slot that changes.
-ghost use Prim.Native.Nat.{_<_};
 ghost use mathlib.Core.Path.{_≡_};
-ghost use lib.ListN.{set};
+ghost use lib.ListN.{getD};
+ghost use Rattle.peers.specs.Slots.{slotOf, choiceOf, noSlot};
 ghost use Rattle.attribute_server.specs.Connection.{connectTold, connectRow, connectTables, disconnectTold, disconnectRow, disconnectTables};
 ghost use Rattle.edge.specs.Reply.{replyTo};
 ghost use Rattle.edge.specs.Asked.{isSet};
@@ -49,8 +49,8 @@ pub fn connect(
     who: Identity,
 ) -> Joined
     ensures { λ r. ⌜ (r .reply ≡ replyTo (connectTold (now (list .entry)) store row (now (tables .entry)) who))
-        × (r .place < 8)
-        × (set row (r .place) (r .slot) ≡ connectRow (now (list .entry)) store row (now (tables .entry)) who)
+        × (r .place ≡ chosenPlace (choiceOf row who))
+        × (r .slot ≡ getD (connectRow (now (list .entry)) store row (now (tables .entry)) who) (chosenPlace (choiceOf row who)) noSlot)
         × (now (tables .exit) ≡ connectTables (now (list .entry)) store row (now (tables .entry)) who) ⌝ }
 {
     let place = chosen(peers::inner::choose(row, who));
@@ -75,8 +75,8 @@ pub fn disconnect(
     bonded: u8,
 ) -> Joined
     ensures { λ r. ⌜ (r .reply ≡ replyTo (disconnectTold (now (list .entry)) store row (now (tables .entry)) who))
-        × (r .place < 8)
-        × (set row (r .place) (r .slot) ≡ disconnectRow (now (list .entry)) store row (now (tables .entry)) who (isSet bonded))
+        × (r .place ≡ foundPlace (slotOf row who))
+        × (r .slot ≡ getD (disconnectRow (now (list .entry)) store row (now (tables .entry)) who (isSet bonded)) (foundPlace (slotOf row who)) noSlot)
         × (now (tables .exit) ≡ disconnectTables (now (list .entry)) store row (now (tables .entry)) who (isSet bonded)) ⌝ }
 {
     let place = found(peers::inner::find_slot(row, who));

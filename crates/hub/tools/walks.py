@@ -113,26 +113,27 @@ walk('request', 'process', [slots, list_lent, store_lent, tables_lent, who, leve
      lambda g: served(g, '(row8 ys)'), lambda g: f'one-served {call_of(g, "ys", "h")} {at(g, "out")} not8', same_row(served), outcome='Serving', fields={'reply': 0, 'next': 1})
 
 
-def joined(name, extra):
-    def facts(g, row):
+def comes_and_goes(name, params, place, of, extra, uses):
+    def where(g, row):
+        return f'({place} ({of} {row} {at(g, "who")}))'
+
+    def fact(g, row):
         given = f'{state(g, row)} {at(g, "who")}'
-        return [f'(r .reply ≡ replyTo ({name}Told {given}))', '(r .place < 8)', f'(set {row} (r .place) (r .slot) ≡ {name}Row {given}{extra(g)})', f'({last(g, "tables")} ≡ {name}Tables {given}{extra(g)})']
-    return facts
-
-
-def comes_and_goes(name, params, extra, uses):
-    facts = joined(name, extra)
-    fact = lambda g, row: ' × '.join(facts(g, row))
+        return ' × '.join([f'(r .reply ≡ replyTo ({name}Told {given}))', f'(r .place ≡ {where(g, row)})', f'(r .slot ≡ getD ({name}Row {given}{extra(g)}) {where(g, row)} noSlot)',
+                           f'({last(g, "tables")} ≡ {name}Tables {given}{extra(g)})'])
 
     def yes(g):
-        return f'let w = {same_row(fact)(g)} in (w .0, w .2, w .3)'
-    walk('connection', name, params, [REFUSING, f'use Rattle.attribute_server.specs.Connection.{{{name}Told, {name}Row, {name}Tables}}', 'use Rattle.edge.specs.Reply.{replyTo}'] + uses,
+        stored = f'ap (λ (n : ℕ). set ys n (r .slot)) (w .1) ∙ ap (λ (s : Slot). set ys {where(g, "ys")} s) (w .2) ∙ {name}-put ys {at(g, "who")}{extra(g)} (admission {state(g, "ys")} {at(g, "who")})'
+        return f'let w = {same_row(fact)(g)} in (w .0, {stored}, w .3)'
+    walk('connection', name, params,
+         [REFUSING, f'use Rattle.attribute_server.specs.Connection.{{{name}Told, {name}Row, {name}Tables}}', 'use Rattle.attribute_server.specs.Admission.{admission}', f'use Rattle.peers.specs.Slots.{{{of}}}',
+          'use Rattle.edge.specs.Reply.{replyTo}', f'use Rattle.edge.specs.Place.{{{place}}}', f'use Rattle.edge.proofs.Placing.{{{name}-inside, {name}-put}}'] + uses,
          lambda g: fact(g, '(row8 ys)'), lambda g: f'(one-told {refusing(g)} _, one-left {refusing(g)} _ _, one-left {refusing(g)} _ _)', yes,
-         outcome='Joined', fields={'reply': 0, 'place': 1, 'slot': 2}, within=lambda g: 'done′ .1')
+         outcome='Joined', fields={'reply': 0, 'place': 1, 'slot': 2}, within=lambda g: f'subst (λ (n : ℕ). n < 8) (sym (done′ .1)) ({name}-inside (row8 ys) {at(g, "who")} refl)')
 
 
-comes_and_goes('connect', [mut_slots, list_read, store_size, tables_lent, who], lambda g: '', [])
-comes_and_goes('disconnect', [mut_slots, list_read, store_size, tables_lent, who, bonded], lambda g: f' (isSet {at(g, "bonded")})', ['use Rattle.edge.specs.Asked.{isSet}'])
+comes_and_goes('connect', [mut_slots, list_read, store_size, tables_lent, who], 'chosenPlace', 'choiceOf', lambda g: '', [])
+comes_and_goes('disconnect', [mut_slots, list_read, store_size, tables_lent, who, bonded], 'foundPlace', 'slotOf', lambda g: f' (isSet {at(g, "bonded")})', ['use Rattle.edge.specs.Asked.{isSet}'])
 
 
 def new_fact(g, row):

@@ -1,5 +1,5 @@
 -- `hub::connection::ropethatch_connect` meets its contract: a walk of its code, written by tools/walks.py. Assumes nothing.
-use mathlib.Core.Path.{_≡_, refl, sym, ap, subst}
+use mathlib.Core.Path.{_≡_, refl, sym, _∙_, ap, subst}
 use Prim.Native.Nat.{ℕ, _<_}
 use mathlib.Core.List.{[], _∷_, List, map}
 use lib.ListN.{length, getD, set, length-set}
@@ -59,7 +59,11 @@ use Rattle.edge.proofs.connection.Joined as K
 use Rattle.edge.proofs.connection.Joined.Laws as K′
 use Rattle.hub.proofs.Refusing.{one-told, one-left}
 use Rattle.attribute_server.specs.Connection.{connectTold, connectRow, connectTables}
+use Rattle.attribute_server.specs.Admission.{admission}
+use Rattle.peers.specs.Slots.{choiceOf}
 use Rattle.edge.specs.Reply.{replyTo}
+use Rattle.edge.specs.Place.{chosenPlace}
+use Rattle.edge.proofs.Placing.{connect-inside, connect-put}
 use Rattle.edge.proofs.connection.connect as core
 use Rattle.edge.proofs.connection.connect.Symbol as core-def
 use Rattle.edge.proofs.connection.connect.Met as core-thm
@@ -135,13 +139,13 @@ module _ {M : Type 1} (𝓤 : URA M) (H : Heap 𝓤) (A : Atoms 𝓤) (W : Given
   Ends = (Unit {0} × (Unit {0} × (Unit {0} × (List (List ℕ) × (Unit {0} × Unit {0})))))
 
   abbrev Done : Joined → Ends → Type 0
-  Done = λ r zs. (r .reply ≡ replyTo (connectTold (a .1 .0 .now) (a .1 .1 .0) (row8 ys) (a .1 .1 .1 .0 .now) (a .1 .1 .1 .1 .0))) × (r .place < 8) × (set (row8 ys) (r .place) (r .slot) ≡ connectRow (a .1 .0 .now) (a .1 .1 .0) (row8 ys) (a .1 .1 .1 .0 .now) (a .1 .1 .1 .1 .0)) × ((zs .1 .1 .1 .0) ≡ connectTables (a .1 .0 .now) (a .1 .1 .0) (row8 ys) (a .1 .1 .1 .0 .now) (a .1 .1 .1 .1 .0))
+  Done = λ r zs. (r .reply ≡ replyTo (connectTold (a .1 .0 .now) (a .1 .1 .0) (row8 ys) (a .1 .1 .1 .0 .now) (a .1 .1 .1 .1 .0))) × (r .place ≡ (chosenPlace (choiceOf (row8 ys) (a .1 .1 .1 .1 .0)))) × (r .slot ≡ getD (connectRow (a .1 .0 .now) (a .1 .1 .0) (row8 ys) (a .1 .1 .1 .0 .now) (a .1 .1 .1 .1 .0)) (chosenPlace (choiceOf (row8 ys) (a .1 .1 .1 .1 .0))) noSlot) × ((zs .1 .1 .1 .0) ≡ connectTables (a .1 .0 .now) (a .1 .1 .0) (row8 ys) (a .1 .1 .1 .0 .now) (a .1 .1 .1 .1 .0))
 
   below : length ys ≡ 8 → (i : ℕ) → i < 8 → i < length ys
   below len i l = subst (λ (n : ℕ). i < n) (sym len) l
 
   within : length ys ≡ 8 → (r : Joined) (zs : Ends) → Done r zs → r .place < length ys
-  within len r zs done′ = below len (r .place) (done′ .1)
+  within len r zs done′ = below len (r .place) (subst (λ (n : ℕ). n < 8) (sym (done′ .1)) (connect-inside (row8 ys) (a .1 .1 .1 .1 .0) refl))
 
   -- the rows with the slot that the core names in it
   abbrev stored : Joined → List Slot
@@ -164,7 +168,7 @@ module _ {M : Type 1} (𝓤 : URA M) (H : Heap 𝓤) (A : Atoms 𝓤) (W : Given
   exits r zs len done′ n₂ is-reply room =
       qed W (‵ (fobs sγ (codedHoleys S.the-row .code (heres S.the-row (stored r)))) ∷ ‵ (fbor (κs .0) (HeldRows S.the-row (length (stored r)) b o sγ)) ∷ ‵ (flft (κs .0) (qs .0)) ∷ (‵ (flft (κs .1 .0) (qs .1 .0)) ⊛ ‵ (flft (κs .1 .1 .0) (qs .1 .1 .0)) ⊛ ‵ ftrue) ∷ ‵ (finally (Array u8 640) (a .1 .1 .1 .0 .name) (zs .1 .1 .1 .0)) ∷ []) ∵
       suffices ! _ (ends-at 𝓤 H A f.ended stayed (f.clauses 𝓤 H A at-mem run) W ((κs, qs, tt, a, at), tt) (Y′.lowered (r .reply)) (r .reply) (stored r, (tt, (tt, ((zs .1 .1 .1 .0), (tt, tt))))) (stored-length r, (tt, (tt, (n₂, (tt, tt)))))) $
-      says ! (let w = subst (λ (l : List Slot). (r .reply ≡ replyTo (connectTold (a .1 .0 .now) (a .1 .1 .0) l (a .1 .1 .1 .0 .now) (a .1 .1 .1 .1 .0))) × (r .place < 8) × (set l (r .place) (r .slot) ≡ connectRow (a .1 .0 .now) (a .1 .1 .0) l (a .1 .1 .1 .0 .now) (a .1 .1 .1 .1 .0)) × ((zs .1 .1 .1 .0) ≡ connectTables (a .1 .0 .now) (a .1 .1 .0) l (a .1 .1 .1 .0 .now) (a .1 .1 .1 .1 .0))) (eight ys len) done′ in (w .0, w .2, w .3)) $
+      says ! (let w = subst (λ (l : List Slot). (r .reply ≡ replyTo (connectTold (a .1 .0 .now) (a .1 .1 .0) l (a .1 .1 .1 .0 .now) (a .1 .1 .1 .1 .0))) × (r .place ≡ (chosenPlace (choiceOf l (a .1 .1 .1 .1 .0)))) × (r .slot ≡ getD (connectRow (a .1 .0 .now) (a .1 .1 .0) l (a .1 .1 .1 .0 .now) (a .1 .1 .1 .1 .0)) (chosenPlace (choiceOf l (a .1 .1 .1 .1 .0))) noSlot) × ((zs .1 .1 .1 .0) ≡ connectTables (a .1 .0 .now) (a .1 .1 .0) l (a .1 .1 .1 .0 .now) (a .1 .1 .1 .1 .0))) (eight ys len) done′ in (w .0, ap (λ (n : ℕ). set ys n (r .slot)) (w .1) ∙ ap (λ (s : Slot). set ys (chosenPlace (choiceOf ys (a .1 .1 .1 .1 .0))) s) (w .2) ∙ connect-put ys (a .1 .1 .1 .1 .0) (admission (a .1 .0 .now) (a .1 .1 .0) ys (a .1 .1 .1 .0 .now) (a .1 .1 .1 .1 .0)), w .3)) $
       move ! (3 ∷ []) $ split ! $ move ! (1 ∷ []) $ split ! $ move ! (1 ∷ []) $
       move ! (0 ∷ []) $ move ! (1 ∷ 0 ∷ []) $ join ! $ move ! (1 ∷ 0 ∷ []) $ join ! $ move ! (3 ∷ 0 ∷ []) $ join ! $ frame ! $
       move ! (0 ∷ 1 ∷ []) $ fjoin ! $ pureI ! (at-slice S.the-row (record { ptr = (b, o); name = sγ; now = stored r }) (sliceVal (b, o) (length ys) ∷ [])) (tt, (tt, tt)) (ap (λ (m : ℕ). sliceVal (b, o) m ∷ []) (sym (stored-length r)), subst (Room S.the-row) (sym (stored-length r)) room) $ fjoin ! $
