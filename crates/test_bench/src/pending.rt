@@ -1,0 +1,151 @@
+// The pending list and store: what the next hub is opened from.
+use crate::memory;
+use crate::memory::Bench;
+use crate::memory::Turn;
+use lines::number;
+use lines::parts;
+use lines::say;
+use lines::words;
+use wire::least;
+
+// The numbers of an `attr` line. Flags: 1 variable, 2 client.
+struct Entry {
+    handle: usize,
+    reads: usize,
+    writes: usize,
+    flags: u8,
+    cap: usize,
+    start: usize,
+    len: usize,
+}
+
+// Word k as an entry's flags, 255 for what is no kind.
+fn flags(line: &[u8], k: usize) -> u8 {
+    if words::is(line, k, b"sf") {
+        return 0;
+    }
+    if words::is(line, k, b"sv") {
+        return 1;
+    }
+    if words::is(line, k, b"cf") {
+        return 2;
+    }
+    if words::is(line, k, b"cv") {
+        return 3;
+    }
+    255
+}
+
+fn read_entry(line: &[u8]) -> Entry {
+    Entry {
+        handle: number::at(line, 1),
+        reads: number::at(line, 3),
+        writes: number::at(line, 4),
+        flags: flags(line, 5),
+        cap: number::at(line, 6),
+        start: number::at(line, 7),
+        len: number::at(line, 8),
+    }
+}
+
+// Whether each number of an entry is one, and fits where it goes. A start may be any number.
+fn is_entry(e: Entry) -> bool {
+    if 0xFFFF < e.handle {
+        return false;
+    }
+    if 0xFF < e.reads {
+        return false;
+    }
+    if 0xFF < e.writes {
+        return false;
+    }
+    if e.flags == 255 {
+        return false;
+    }
+    if 0xFFFF < e.cap {
+        return false;
+    }
+    if e.start == number::NONE {
+        return false;
+    }
+    e.len <= 0xFFFF
+}
+
+// An entry's record. A start that no record holds lies past every store, as the last one that a record holds does.
+fn record(e: Entry, uuid: &[u8]) -> [u8; 32] {
+    let mut r = [0u8; 32];
+    wire::inner::set(&mut r, 0, number::low16(e.handle));
+    wire::inner::set(&mut r, 2, number::low16(e.cap));
+    wire::inner::set(&mut r, 4, number::low16(least(e.start, 0xFFFF)));
+    wire::inner::set(&mut r, 6, number::low16(e.len));
+    r[8] = number::low8(e.reads);
+    r[9] = number::low8(e.writes);
+    r[10] = e.flags;
+    r[11] = number::low8(least(uuid.len(), 255));
+    parts::put(&mut r, 12, parts::front(uuid, 16));
+    r
+}
+
+// One more entry.
+fn attr(line: &[u8], list: &mut [[u8; 32]], b: Bench) -> Bench {
+    let e = read_entry(line);
+    let mut uuid = [0u8; 4100];
+    let n = number::bytes_at(line, 2, &mut uuid);
+    let at = b.pending;
+    if !is_entry(e) {
+        say::no_call();
+        return b;
+    }
+    if 4100 < n {
+        say::no_call();
+        return b;
+    }
+    if list.len() <= at {
+        say::no_call();
+        return b;
+    }
+    list[at] = record(e, parts::front(&uuid, n));
+    say::line(b"ok");
+    let mut next = b;
+    next.pending = at + 1;
+    next
+}
+
+// The pending store. The bytes are read beside it first, so that a line that is no call leaves it.
+fn store(line: &[u8], kept: &mut [u8], b: Bench) -> Bench {
+    let mut d = [0u8; 4100];
+    let n = number::bytes_at(line, 1, &mut d);
+    if 4100 < n {
+        say::no_call();
+        return b;
+    }
+    if !parts::put(kept, 0, parts::front(&d, n)) {
+        say::no_call();
+        return b;
+    }
+    say::line(b"ok");
+    let mut next = b;
+    next.kept = n;
+    next
+}
+
+fn new(b: Bench) -> Bench {
+    say::line(b"ok");
+    let mut next = b;
+    next.pending = 0;
+    next.kept = 0;
+    next
+}
+
+pub fn answer(line: &[u8], list: &mut [[u8; 32]], kept: &mut [u8], b: Bench) -> Turn {
+    if words::is_call(line, b"new", 0) {
+        return memory::known(new(b));
+    }
+    if words::is_call(line, b"attr", 8) {
+        return memory::known(attr(line, list, b));
+    }
+    if words::is_call(line, b"store", 1) {
+        return memory::known(store(line, kept, b));
+    }
+    memory::unknown(b)
+}
