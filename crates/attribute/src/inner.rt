@@ -1,11 +1,15 @@
 // An entry by its place, for callers that know that there is one.
 ghost use mathlib.Core.Path.{_≡_};
 ghost use mathlib.Core.List.{[]};
-ghost use Prim.Native.Nat.{_+_, _<_};
-ghost use lib.ListN.{length, getD, set, drop};
+ghost use Prim.Native.Nat.{_≤_, _<_};
+ghost use lib.ListN.{length, getD, set};
+ghost use lib.Dec.{eqb};
+ghost use Rattle.wire.specs.Uuid.{sameUuid};
 ghost use Rattle.attribute.specs.Record.{attributeOf, uuidOf, withLength, entryOf};
-ghost use Rattle.attribute.specs.Lookup.{handleOf, entriesOf, isWithin, isWanted, isService, groupEnd};
+ghost use Rattle.attribute.specs.Lookup.{handleOf, placeOf, Ascends, isWithin, isWanted, isService, InGroup};
 use crate::Attribute;
+use crate::Group;
+use wire::Found;
 use wire::least;
 
 // The record's fields.
@@ -50,11 +54,36 @@ pub fn set_length(list: &mut [[u8; 32]], i: usize, n: u16)
     wire::inner::set(&mut list[i], 6, n);
 }
 
-// Whether an entry starts a service, primary or secondary.
+// Whether two short UUIDs are the same: that of a record, and another.
+fn same_short(r: &[u8], wanted: &[u8]) -> bool
+    requires { ⌜ (length (now r) ≡ 32) × (getD (now r) 11 0 ≡ 2) × (length (now wanted) ≡ 2) ⌝ }
+    ensures { λ t. ⌜ t ≡ sameUuid (uuidOf (now (r .entry))) (now (wanted .entry)) ⌝ }
+{
+    if r[12] != wanted[0] {
+        return false;
+    }
+    r[13] == wanted[1]
+}
+
+// Whether a record's UUID is a short one.
+fn is_short(r: &[u8]) -> bool
+    requires { ⌜ length (now r) ≡ 32 ⌝ }
+    ensures { λ t. ⌜ t ≡ eqb (getD (now (r .entry)) 11 0) 2 ⌝ }
+{
+    r[11] == 2
+}
+
+// Whether an entry starts a service, primary or secondary. Most UUIDs are short, and there two bytes decide; so in the next function.
 fn is_service(list: &[[u8; 32]], i: usize) -> bool
     requires { ⌜ i < length (now list) ⌝ }
     ensures { λ r. ⌜ r ≡ isService (entryOf (getD (now (list .entry)) i [])) ⌝ }
 {
+    if is_short(&list[i]) {
+        if same_short(&list[i], &[0x00, 0x28]) {
+            return true;
+        }
+        return same_short(&list[i], &[0x01, 0x28]);
+    }
     let u = uuid(&list[i]);
     if wire::uuid::same_uuid(u, &[0x00, 0x28]) {
         return true;
@@ -62,21 +91,21 @@ fn is_service(list: &[[u8; 32]], i: usize) -> bool
     wire::uuid::same_uuid(u, &[0x01, 0x28])
 }
 
-// The last handle of the group that the entry at place i begins or belongs to.
-pub fn group_end(list: &[[u8; 32]], i: usize) -> u16
+// The group of the entry at place i, from there on: it stops at the next service or behind the list, and ends at the handle before that.
+pub fn group_at(list: &[[u8; 32]], i: usize) -> Group
     requires { ⌜ i < length (now list) ⌝ }
-    ensures { λ r. ⌜ r ≡ groupEnd (handleOf (getD (now (list .entry)) i [])) (entriesOf (drop (i + 1) (now (list .entry)))) ⌝ }
+    ensures { λ r. ⌜ (i < r .stop) × (r .stop ≤ length (now (list .entry))) × InGroup (now (list .entry)) i r ⌝ }
 {
     let mut end = handle_at(list, i);
     let mut j = i + 1;
     while j < list.len() {
         if is_service(list, j) {
-            return end;
+            return Group { stop: j, end: end };
         }
         end = handle_at(list, j);
         j += 1;
     }
-    end
+    Group { stop: j, end: end }
 }
 
 // Whether an entry's handle lies in a range.
@@ -91,6 +120,35 @@ pub fn is_within(list: &[[u8; 32]], i: usize, start: u16, end: u16) -> bool
     h <= end
 }
 
+// Whether two UUIDs are the same, that of a record and another, of any lengths. A long one differs from a short one mostly where that
+// stands in it.
+fn same_widened(r: &[u8], wanted: &[u8]) -> bool
+    requires { ⌜ length (now r) ≡ 32 ⌝ }
+    ensures { λ t. ⌜ t ≡ sameUuid (uuidOf (now (r .entry))) (now (wanted .entry)) ⌝ }
+{
+    if is_short(r) {
+        if wanted.len() == 16 {
+            if wanted[12] != r[12] {
+                return false;
+            }
+        }
+    }
+    wire::uuid::same_uuid(uuid(r), wanted)
+}
+
+// Whether an entry is of a type.
+fn is_type(list: &[[u8; 32]], i: usize, wanted: &[u8]) -> bool
+    requires { ⌜ i < length (now list) ⌝ }
+    ensures { λ r. ⌜ r ≡ sameUuid (uuidOf (getD (now (list .entry)) i [])) (now (wanted .entry)) ⌝ }
+{
+    if wanted.len() == 2 {
+        if is_short(&list[i]) {
+            return same_short(&list[i], wanted);
+        }
+    }
+    same_widened(&list[i], wanted)
+}
+
 // Whether an entry lies in a range and is of a type.
 pub fn is_wanted(list: &[[u8; 32]], i: usize, start: u16, end: u16, wanted: &[u8]) -> bool
     requires { ⌜ i < length (now list) ⌝ }
@@ -99,5 +157,27 @@ pub fn is_wanted(list: &[[u8; 32]], i: usize, start: u16, end: u16, wanted: &[u8
     if !is_within(list, i, start, end) {
         return false;
     }
-    wire::uuid::same_uuid(uuid(&list[i]), wanted)
+    is_type(list, i, wanted)
+}
+
+// The place of a handle, by halves, where handles ascend.
+pub fn find_listed(list: &[[u8; 32]], handle: u16) -> Found
+    requires { ⌜ Ascends (now list) ⌝ }
+    ensures { λ r. ⌜ r ≡ placeOf (now (list .entry)) handle ⌝ }
+{
+    let mut lo = 0;
+    let mut hi = list.len();
+    while lo < hi {
+        let mid = (lo + hi) / 2;
+        let h = handle_at(list, mid);
+        if h == handle {
+            return Found::At(mid);
+        }
+        if h < handle {
+            lo = mid + 1;
+        } else {
+            hi = mid;
+        }
+    }
+    Found::Nothing
 }

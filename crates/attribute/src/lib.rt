@@ -21,6 +21,12 @@ pub struct Attribute {
     pub client: bool,
 }
 
+// The entries up to place `stop` belong to one group, which ends at handle `end`.
+pub struct Group {
+    pub stop: usize,
+    pub end: u16,
+}
+
 // How far a link is trusted. An authenticated one is encrypted too; one that is gone is told so before any need.
 pub enum Link {
     Plain,

@@ -28,6 +28,8 @@ use Rattle.model.specs.declared.Request.the-variants as request
 use Rattle.model.specs.declared.Change.{Change}
 use Rattle.model.specs.declared.Change.the-variants.{Write, WriteCommand, PrepareWrite, ExecuteWrite}
 use Rattle.storing.specs.Ready.{SlotReady, Ready}
+use Rattle.requests.specs.Slot.{needsSlot, givenSlot}
+use Rattle.wire.specs.declared.Found.the-variants.{Nothing}
 use Rattle.writing.specs.Fits.{Fits}
 use Rattle.requests.specs.Fits.{RequestFits}
 use Rattle.attribute_server.specs.Admission.{admissionBy, toldIf, leftIf, changeTooLong, isTooLong, isBadBuffer}
@@ -122,6 +124,19 @@ module _ (list : List (List ℕ)) (store : ℕ) (row : List Slot) (ts : List (Li
 
   pub ready : Ready list store ts (slotOf row who)
   ready = record { right = right-list list store row ts h; own = slot-ready }
+
+  -- also for one that is given no slot, where it needs none
+  pub ready-given : (rq : Request) → Ready list store ts (givenSlot rq (slotOf row who))
+  unfolding givenSlot
+  ready-given rq = by (needsSlot rq)
+    where
+      by : (t : Bool) → Ready list store ts (cond t (slotOf row who) Nothing)
+      by true = ready
+      by false =
+          record {
+            right = right-list list store row ts h;
+            own = record { tables = tables-read list store row ts h; inside = λ k e. let z : _≡_ {A = ℕ} 0 1 = cc in absurd (omega arith) };
+          }
 
 module _ (list : List (List ℕ)) (store : ℕ) (row : List Slot) (ts : List (List ℕ)) (p : Prepared) (h : validWith list store row ts p ≡ true) where
   pub with-record : recordOk p ≡ true

@@ -1,4 +1,7 @@
 // Requests over a link.
+ghost use mathlib.Core.Path.{_≡_};
+ghost use Rattle.peers.specs.Slots.{slotOf};
+ghost use Rattle.requests.specs.Slot.{givenSlot};
 ghost use Rattle.attribute_server.specs.Request.{call, Processed};
 use crate::Admission;
 use crate::refusal;
@@ -7,8 +10,19 @@ use model::Request;
 use peers::Identity;
 use peers::Slot;
 use state::Prepared;
+use wire::Found;
 use writing::Changed;
 use writing::inner::with_record;
+
+// The peer's slot, where the request needs it: most that only discover do not.
+fn slot_for(row: [Slot; 8], who: Identity, rq: Request) -> Found
+    ensures { λ r. ⌜ r ≡ givenSlot rq (slotOf row who) ⌝ }
+{
+    if !requests::inner::needs_slot(rq) {
+        return Found::Nothing;
+    }
+    peers::inner::find_slot(row, who)
+}
 
 // Answers a request of a peer over its link: d are the bytes that it brings, `bytes` those of the link's prepared write, `out` is for the response.
 pub fn process(
@@ -40,6 +54,6 @@ pub fn process(
     ) {
         return with_record(p, a);
     }
-    let slot = peers::inner::find_slot(row, who);
+    let slot = slot_for(row, who, rq);
     requests::inner::answer(list, store, tables, slot, link, p, bytes, rq, d, out)
 }

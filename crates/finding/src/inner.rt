@@ -1,4 +1,5 @@
 // The two handlers that find: each a run of turns over the list, written through the cursor. A row is written only once it is known to stay.
+// A group's end is looked for once, not for each of its rows.
 ghost use mathlib.Core.Path.{_≡_};
 ghost use mathlib.Core.Bool.{true, cond};
 ghost use mathlib.Core.List.{[]};
@@ -6,12 +7,13 @@ ghost use Prim.Native.Nat.{_+_, _-_, _≤_, _<_};
 ghost use lib.ListN.{length, getD, drop};
 ghost use lib.Dec.{eqb};
 ghost use Rattle.wire.specs.Cursor.{Wrote};
-ghost use Rattle.attribute.specs.Lookup.{entriesOf, isWithin, isWanted};
+ghost use Rattle.attribute.specs.Lookup.{entriesOf, isWithin, isWanted, groupEndAt, InGroup};
 ghost use Rattle.attribute.specs.Rules.{listOk};
 ghost use Rattle.model.specs.Run.{run, Turned};
 ghost use Rattle.model.specs.Rows.{holds as holdsValue, findTurn};
 ghost use Rattle.model.specs.Answer.{Sent, infoRsp, findRsp};
 ghost use Rattle.finding.specs.Turns.{infoAt};
+use attribute::Group;
 use model::Range;
 use model::Turn;
 use wire::Found;
@@ -120,7 +122,7 @@ fn holds(list: &[[u8; 32]], store: &[u8], i: usize, d: &[u8]) -> bool
     wire::bytes::same(&store[from..to], d)
 }
 
-// A turn of Find By Type Value at place i.
+// A turn of Find By Type Value at place i; `end` is the end of its group.
 fn find_turn(
     list: &[[u8; 32]],
     store: &[u8],
@@ -128,10 +130,11 @@ fn find_turn(
     uuid: &[u8],
     d: &[u8],
     i: usize,
+    end: u16,
     out: &mut [u8],
     c: WriteCursor,
 ) -> Turn
-    requires { ⌜ (i < length (now list)) × (listOk (now list) (length (now store)) ≡ true) × (c .len ≤ length (now out)) ⌝ }
+    requires { ⌜ (i < length (now list)) × (listOk (now list) (length (now store)) ≡ true) × (c .len ≤ length (now out)) × (end ≡ groupEndAt (now list) i) ⌝ }
     ensures { λ r. ⌜ Turned (now (out .entry)) (now (out .exit)) c r (findTurn (now (store .entry)) (isWanted (g .start) (g .end) (now (uuid .entry))) (now (d .entry)) (getD (now (list .entry)) i []) (drop (i + 1) (now (list .entry))) (length (now (out .entry)) - c .len)) ⌝ }
 {
     if !attribute::inner::is_wanted(list, i, g.start, g.end, uuid) {
@@ -153,11 +156,22 @@ fn find_turn(
         };
     }
     let c = c.word(out, attribute::inner::handle_at(list, i));
-    let c = c.word(out, attribute::inner::group_end(list, i));
+    let c = c.word(out, end);
     Turn {
         more: true,
         cursor: c,
     }
+}
+
+// The group of the entry at place i: the one before, as long as it reaches that far.
+fn next_group(list: &[[u8; 32]], group: Group, i: usize) -> Group
+    requires { ⌜ (i < length (now list)) × InGroup (now list) i group ⌝ }
+    ensures { λ r. ⌜ (i < r .stop) × InGroup (now (list .entry)) i r ⌝ }
+{
+    if i < group.stop {
+        return group;
+    }
+    attribute::inner::group_at(list, i)
 }
 
 // The rows of the whole list.
@@ -175,8 +189,10 @@ fn put_found(
 {
     let mut c = c;
     let mut i = 0;
+    let mut group = Group { stop: 0, end: 0 };
     while i < list.len() {
-        let t = find_turn(list, store, g, uuid, d, i, out, c);
+        group = next_group(list, group, i);
+        let t = find_turn(list, store, g, uuid, d, i, group.end, out, c);
         c = t.cursor;
         if !t.more {
             return c;

@@ -1,18 +1,20 @@
 // The two reads by type: the first wanted entry fixes the length, then a run of turns from it on, written through the cursor. A row is written only
-// once it is known to stay.
+// once it is known to stay. A group's end is looked for once, not for each of its rows.
 ghost use mathlib.Core.Path.{_≡_};
+ghost use mathlib.Core.Bool.{true};
 ghost use mathlib.Core.List.{[]};
 ghost use Prim.Native.Nat.{_+_, _-_, _≤_, _<_};
 ghost use lib.ListN.{length, getD, drop};
 ghost use Rattle.wire.specs.Cursor.{Wrote};
 ghost use Rattle.attribute.specs.Record.{entryOf};
-ghost use Rattle.attribute.specs.Lookup.{entriesOf, isWanted};
+ghost use Rattle.attribute.specs.Lookup.{entriesOf, isWanted, groupEndAt, InGroup};
 ghost use Rattle.model.specs.View.{seenAll};
 ghost use Rattle.model.specs.Run.{run, Turned};
 ghost use Rattle.model.specs.Rows.{byTypeForm, byGroupForm, extraOf, lead, valueTurn};
 ghost use Rattle.model.specs.Answer.{Sent, listRsp};
 ghost use Rattle.values.specs.Locate.{gotOf, Inside, Ready};
 ghost use Rattle.listing.specs.Turns.{cutTo, rowAt};
+use attribute::Group;
 use attribute::Link;
 use model::Form;
 use model::Range;
@@ -39,15 +41,23 @@ fn cut(form: Form, room: usize, len: usize) -> usize
 }
 
 // What stands before the value of the entry at place i: its handle, and the end of its group where the form wants it.
-fn put_lead(form: Form, list: &[[u8; 32]], i: usize, out: &mut [u8], c: WriteCursor) -> WriteCursor
+fn put_lead(
+    form: Form,
+    list: &[[u8; 32]],
+    i: usize,
+    end: u16,
+    out: &mut [u8],
+    c: WriteCursor,
+) -> WriteCursor
     requires { ⌜ (i < length (now list)) × (c .len + extraOf form ≤ length (now out)) ⌝ }
+    requires { ⌜ (form .group ≡ true → end ≡ groupEndAt (now list) i) ⌝ }
     ensures { λ r. ⌜ Wrote (now (out .entry)) (now (out .exit)) c r (lead form (entryOf (getD (now (list .entry)) i [])) (entriesOf (drop (i + 1) (now (list .entry))))) ⌝ }
 {
     let c = c.word(out, attribute::inner::handle_at(list, i));
     if !form.group {
         return c;
     }
-    c.word(out, attribute::inner::group_end(list, i))
+    c.word(out, end)
 }
 
 // The row of an entry whose value is located, where the first value had `size` bytes and there is room for as many.
@@ -58,12 +68,14 @@ fn put_value(
     table: &[u8],
     v: Located,
     i: usize,
+    end: u16,
     size: usize,
     out: &mut [u8],
     c: WriteCursor,
 ) -> Turn
     requires { ⌜ (i < length (now list)) × Inside (now store) (now table) v ⌝ }
     requires { ⌜ c .len + (size + extraOf form) ≤ length (now out) ⌝ }
+    requires { ⌜ (form .group ≡ true → end ≡ groupEndAt (now list) i) ⌝ }
     ensures { λ r. ⌜ Turned (now (out .entry)) (now (out .exit)) c r (valueTurn form size (entryOf (getD (now (list .entry)) i [])) (entriesOf (drop (i + 1) (now (list .entry)))) (length (now (out .entry)) - c .len) (gotOf (now (store .entry)) (now (table .entry)) v)) ⌝ }
 {
     let Located::Here(s) = v else {
@@ -79,7 +91,7 @@ fn put_value(
             cursor: c,
         };
     }
-    let c = put_lead(form, list, i, out, c);
+    let c = put_lead(form, list, i, end, out, c);
     let c = values::inner::append_span(c, out, store, table, s, 0, n);
     Turn {
         more: true,
@@ -87,7 +99,7 @@ fn put_value(
     }
 }
 
-// A turn at place i.
+// A turn at place i; `end` is the end of its group where the form wants it.
 fn turn(
     form: Form,
     list: &[[u8; 32]],
@@ -98,11 +110,13 @@ fn turn(
     uuid: &[u8],
     size: usize,
     i: usize,
+    end: u16,
     out: &mut [u8],
     c: WriteCursor,
 ) -> Turn
     requires { ⌜ (i < length (now list)) × Ready (now list) (length (now store)) (now table) ⌝ }
     requires { ⌜ (c .len ≤ length (now out)) × (size ≤ form .limit) × (form .limit < 256) ⌝ }
+    requires { ⌜ (form .group ≡ true → end ≡ groupEndAt (now list) i) ⌝ }
     ensures { λ r. ⌜ Turned (now (out .entry)) (now (out .exit)) c r (rowAt form link (now (store .entry)) (now (table .entry)) (isWanted (g .start) (g .end) (now (uuid .entry))) size (getD (now (list .entry)) i []) (drop (i + 1) (now (list .entry))) (length (now (out .entry)) - c .len)) ⌝ }
 {
     if !attribute::inner::is_wanted(list, i, g.start, g.end, uuid) {
@@ -118,7 +132,21 @@ fn turn(
         };
     }
     let v = values::inner::locate_at(list, table, link, i);
-    put_value(form, list, store, table, v, i, size, out, c)
+    put_value(form, list, store, table, v, i, end, size, out, c)
+}
+
+// The group of the entry at place i, where the form wants its end: the one before, as long as it reaches that far.
+fn next_group(form: Form, list: &[[u8; 32]], group: Group, i: usize) -> Group
+    requires { ⌜ (i < length (now list)) × (form .group ≡ true → InGroup (now list) i group) ⌝ }
+    ensures { λ r. ⌜ (form .group ≡ true → (i < r .stop) × InGroup (now (list .entry)) i r) ⌝ }
+{
+    if !form.group {
+        return group;
+    }
+    if i < group.stop {
+        return group;
+    }
+    attribute::inner::group_at(list, i)
 }
 
 // The rows from place `first` on.
@@ -141,8 +169,11 @@ fn put_list(
 {
     let mut c = c;
     let mut i = first;
+    let mut group = Group { stop: 0, end: 0 };
     while i < list.len() {
-        let t = turn(form, list, store, table, link, g, uuid, size, i, out, c);
+        group = next_group(form, list, group, i);
+        let e = group.end;
+        let t = turn(form, list, store, table, link, g, uuid, size, i, e, out, c);
         c = t.cursor;
         if !t.more {
             return c;

@@ -3,7 +3,7 @@ ghost use mathlib.Core.Path.{_≡_};
 ghost use Rattle.peers.specs.Identity.{sameId, isEmpty, isBad};
 use crate::Identity;
 
-// Whether two identities match: by equality.
+// Whether two identities match: by equality. Two tablets' addresses mostly differ in the first byte.
 pub fn same(a: Identity, b: Identity) -> bool
     ensures { λ r. ⌜ r ≡ sameId a b ⌝ }
 {
@@ -12,6 +12,9 @@ pub fn same(a: Identity, b: Identity) -> bool
     }
     let x = a.addr;
     let y = b.addr;
+    if x[0] != y[0] {
+        return false;
+    }
     wire::bytes::same(&x, &y)
 }
 

@@ -11,9 +11,11 @@ ghost use Rattle.model.specs.Change.{lent, Left, lentBy, recordBy, dataBy};
 ghost use Rattle.values.specs.Locate.{Ready as ReadReady};
 ghost use Rattle.storing.specs.Ready.{Ready};
 ghost use Rattle.requests.specs.Fits.{RequestFits};
+ghost use Rattle.requests.specs.Slot.{readsOwn, writesOwn, needsSlot};
 use attribute::Link;
 use model::Answer;
 use model::Ask;
+use model::Change;
 use model::Request;
 use state::Prepared;
 use wire::Found;
@@ -77,6 +79,51 @@ fn ask_from(
     match slot {
         Found::At(k) => ask(list, store, &tables[k], link, rq, d, out),
         Found::Nothing => ask(list, store, &[0, 0, 0, 0], link, rq, d, out),
+    }
+}
+
+// Whether a request that reads looks at the peer's own values.
+fn reads_own(a: Ask) -> bool
+    ensures { λ r. ⌜ r ≡ readsOwn a ⌝ }
+{
+    match a {
+        Ask::FindInformation(_) => false,
+        Ask::ReadByType(_) => true,
+        Ask::ReadByGroupType(_) => true,
+        Ask::Read { handle: _ } => true,
+        Ask::ReadBlob {
+            handle: _,
+            offset: _,
+        } => true,
+        Ask::ReadMultiple => false,
+    }
+}
+
+// Whether one that writes does.
+fn writes_own(c: Change) -> bool
+    ensures { λ r. ⌜ r ≡ writesOwn c ⌝ }
+{
+    match c {
+        Change::Write { handle: _ } => true,
+        Change::WriteCommand { handle: _ } => true,
+        Change::PrepareWrite {
+            handle: _,
+            offset: _,
+        } => false,
+        Change::ExecuteWrite { flags: _ } => true,
+    }
+}
+
+// Whether a request needs the peer's slot. Where it does not, `answer` may be given none.
+pub fn needs_slot(rq: Request) -> bool
+    ensures { λ r. ⌜ r ≡ needsSlot rq ⌝ }
+{
+    match rq {
+        Request::Ask(a) => reads_own(a),
+        Request::FindByTypeValue { range: _, uuid: _ } => false,
+        Request::Change(c) => writes_own(c),
+        Request::ExchangeMtu { mtu: _ } => false,
+        Request::Confirmation => false,
     }
 }
 

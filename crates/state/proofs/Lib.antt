@@ -1,7 +1,9 @@
 pub mod Sizes
 pub mod Laying
+pub mod Columns
+pub mod Values
+pub mod Each
 pub mod Testing
 pub mod Answers
-pub mod Each
 pub mod Keeping
 pub mod Calls

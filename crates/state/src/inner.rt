@@ -8,7 +8,9 @@ ghost use Rattle.attribute.specs.Rules.{listOk};
 ghost use Rattle.table_view.specs.Layout.{endOf};
 ghost use Rattle.table_builder.specs.Push.{builder};
 ghost use Rattle.state.specs.Fresh.{spaceOf, entryLaid, tableSize, freshTable};
-ghost use Rattle.state.specs.Valid.{slotOk, slotsOk};
+ghost use Rattle.state.specs.Valid.{slotsOk};
+ghost use Rattle.state.specs.Tables.{clearOk, clearsOk};
+use crate::tables;
 use attribute::Attribute;
 use peers::Slot;
 use table_view::Key;
@@ -44,40 +46,52 @@ pub fn lay_out(list: &[[u8; 32]], store: usize, out: &mut [u8; 640]) -> bool
     true
 }
 
-// One slot with its table: the fresh table's header and index, lengths within capacity, zeros after the end; clear where the slot is empty.
-fn slot_ok(s: Slot, t: &[u8], fresh: &[u8]) -> bool
-    requires { ⌜ (length (now t) ≡ 640) × (length (now fresh) ≡ 640) × (builder (now fresh) ≡ true) ⌝ }
-    ensures { λ r. ⌜ r ≡ slotOk (now (fresh .entry)) s (now (t .entry)) ⌝ }
+// An empty slot has zeros for its values.
+fn clear_ok(s: Slot, t: &[u8], base: usize, end: usize) -> bool
+    requires { ⌜ (base ≤ end) × (end ≤ length (now t)) ⌝ }
+    ensures { λ r. ⌜ r ≡ clearOk base end s (now (t .entry)) ⌝ }
 {
-    let base = view::values_base(fresh);
-    if !wire::inner::same_front(t, fresh, base) {
-        return false;
-    }
     let id = s.id;
     if peers::who::is_empty(id) {
-        return wire::inner::is_zero_from(t, base);
+        return wire::bytes::is_zero(&t[base..end]);
     }
-    let end = view::values_end(fresh);
-    if !wire::inner::is_zero_from(t, end) {
-        return false;
-    }
-    view::values_ok(t)
+    true
 }
 
-// All slots.
-pub fn slots_ok(row: [Slot; 8], tables: &[[u8; 640]], fresh: &[u8; 640]) -> bool
-    requires { ⌜ (length (now tables) ≡ 8) × (builder (now fresh) ≡ true) ⌝ }
-    ensures { λ r. ⌜ r ≡ slotsOk (now (fresh .entry)) row (now (tables .entry)) ⌝ }
+// And so do all.
+fn clears_ok(row: [Slot; 8], tables: &[[u8; 640]], base: usize, end: usize) -> bool
+    requires { ⌜ (length (now tables) ≡ 8) × (base ≤ end) × (end ≤ 640) ⌝ }
+    ensures { λ r. ⌜ r ≡ clearsOk base end row (now (tables .entry)) ⌝ }
 {
     let mut i = 0;
     while i < 8 {
         let s = row[i];
-        if !slot_ok(s, &tables[i], fresh) {
+        if !clear_ok(s, &tables[i], base, end) {
             return false;
         }
         i += 1;
     }
     true
+}
+
+// All slots with their tables: the fresh table's header and index, zeros after the end, lengths within capacity; clear where the slot is
+// empty.
+pub fn slots_ok(row: [Slot; 8], all: &[[u8; 640]], fresh: &[u8; 640]) -> bool
+    requires { ⌜ (length (now all) ≡ 8) × (builder (now fresh) ≡ true) ⌝ }
+    ensures { λ r. ⌜ r ≡ slotsOk (now (fresh .entry)) row (now (all .entry)) ⌝ }
+{
+    let base = view::values_base(fresh);
+    if !tables::same_front(all, fresh, base) {
+        return false;
+    }
+    let end = view::values_end(fresh);
+    if !tables::zero_from(all, end) {
+        return false;
+    }
+    if !tables::values_ok(all, fresh) {
+        return false;
+    }
+    clears_ok(row, all, base, end)
 }
 
 // Gives every slot the same table.

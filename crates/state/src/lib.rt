@@ -1,5 +1,6 @@
 // Which lent states are valid, and a fresh hub.
 pub mod inner;
+mod tables;
 
 use peers::Identity;
 use peers::Slot;

@@ -8,7 +8,7 @@ ghost use lib.ListN.{length, getD, take, drop};
 ghost use Rattle.wire.specs.Cursor.{Wrote};
 ghost use Rattle.table_view.specs.Rules.{accepts};
 ghost use Rattle.attribute.specs.Record.{attributeOf};
-ghost use Rattle.attribute.specs.Lookup.{placeOf};
+ghost use Rattle.attribute.specs.Lookup.{placeOf, Ascends};
 ghost use Rattle.values.specs.Locate.{ownSpan, valueSpan, readSpan, spanAt, sideOf, spanBytes};
 use crate::Located;
 use crate::Span;
@@ -63,10 +63,10 @@ pub fn locate_at(list: &[[u8; 32]], table: &[u8], link: Link, i: usize) -> Locat
 
 // The same by handle.
 pub fn locate(list: &[[u8; 32]], table: &[u8], link: Link, handle: u16) -> Located
-    requires { ⌜ accepts (now table) ≡ true ⌝ }
+    requires { ⌜ Ascends (now list) × (accepts (now table) ≡ true) ⌝ }
     ensures { λ r. ⌜ r ≡ spanAt link (now (list .entry)) (now (table .entry)) (placeOf (now (list .entry)) handle) ⌝ }
 {
-    let Found::At(i) = attribute::lookup::find_handle(list, handle) else {
+    let Found::At(i) = attribute::inner::find_listed(list, handle) else {
         return Located::Not(0x0A);
     };
     locate_at(list, table, link, i)

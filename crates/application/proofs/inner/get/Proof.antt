@@ -5,6 +5,7 @@ use borrow.Author.Needs.{needs}
 use denote.Ref.{now}
 use Rattle.wire.specs.declared.Found.the-variants.{At}
 use Rattle.attribute.specs.Lookup.{placeOf}
+use Rattle.attribute.proofs.Halves.{ascending}
 use Rattle.model.specs.View.{tableAt}
 use Rattle.model.proofs.Leaving.{listed}
 use Rattle.storing.proofs.Tables.{slot-there, table-there, table-none, own-table, empty-table}
@@ -13,10 +14,10 @@ use Rattle.application.proofs.inner.get.Statement.{statement}
 use Rattle.application.proofs.inner.get.Tie as tie
 
 at : (c : tie.After-i) → placeOf (now (c .before .before .before .before .before .args .list)) (c .before .before .before .before .before .args .handle) ≡ At (c .i .given .0 .0)
-at c = sym (c .before .before .find-handle .ensures) ∙ c .i .given .1
+at c = sym (c .before .before .find-listed .ensures) ∙ c .i .given .1
 
-find-handle-requires : tie.Need-find-handle-requires
-find-handle-requires c κs = search needs
+find-listed-requires : tie.Need-find-listed-requires
+find-listed-requires c κs = ascending _ _ (c .before .before .pre .right)
 
 enum-known-i : tie.Need-enum-known-i
 enum-known-i c = search needs
@@ -27,7 +28,7 @@ enum-told c = search needs
 returns : tie.Need-returns
 returns c =
     let a = c .before .before .before .before .before .args in
-    not-listed (now (a .list)) (now (a .store)) (tableAt (now (a .tables)) (a .slot)) _ (now (a .out)) (sym (c .before .before .find-handle .ensures) ∙ c .enum-told .given .1)
+    not-listed (now (a .list)) (now (a .store)) (tableAt (now (a .tables)) (a .slot)) _ (now (a .out)) (sym (c .before .before .find-listed .ensures) ∙ c .enum-told .given .1)
 
 enum-known-slot : tie.Need-enum-known-slot
 enum-known-slot c = search needs
@@ -76,7 +77,7 @@ pub get-spec : {M : Type 1} → statement M
 get-spec =
     tie.close
     (tie.spec
-    find-handle-requires
+    find-listed-requires
     enum-known-i
     enum-told
     returns

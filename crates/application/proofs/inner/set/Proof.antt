@@ -4,16 +4,17 @@ use borrow.Author.Needs.{needs}
 use denote.Ref.{now}
 use Rattle.wire.specs.declared.Found.the-variants.{At}
 use Rattle.attribute.specs.Lookup.{placeOf}
+use Rattle.attribute.proofs.Halves.{ascending}
 use Rattle.model.proofs.Leaving.{listed}
 use Rattle.application.proofs.Calls.{nothing-set, wrong-length, value-set}
 use Rattle.application.proofs.inner.set.Statement.{statement}
 use Rattle.application.proofs.inner.set.Tie as tie
 
 at : (c : tie.After-i) → placeOf (now (c .before .before .before .before .before .before .args .list)) (c .before .before .before .before .before .before .args .handle) ≡ At (c .i .given .0 .0)
-at c = sym (c .before .before .find-handle .ensures) ∙ c .i .given .1
+at c = sym (c .before .before .find-listed .ensures) ∙ c .i .given .1
 
-find-handle-requires : tie.Need-find-handle-requires
-find-handle-requires c κs = search needs
+find-listed-requires : tie.Need-find-listed-requires
+find-listed-requires c κs = ascending _ _ (c .before .before .before .pre .right)
 
 enum-known-i : tie.Need-enum-known-i
 enum-known-i c = search needs
@@ -27,7 +28,7 @@ same-length c = search needs
 returns : tie.Need-returns
 returns c =
     let a = c .before .before .before .before .before .before .args in
-    nothing-set (now (a .list)) (now (a .store)) (now (a .tables)) _ _ (now (a .d)) (sym (c .before .before .find-handle .ensures) ∙ c .enum-told .given .1)
+    nothing-set (now (a .list)) (now (a .store)) (now (a .tables)) _ _ (now (a .d)) (sym (c .before .before .find-listed .ensures) ∙ c .enum-told .given .1)
 
 is-wrong-length-requires : tie.Need-is-wrong-length-requires
 is-wrong-length-requires c κs = listed _ _ _ (at (c .before .before))
@@ -65,7 +66,7 @@ pub set-spec : {M : Type 1} → statement M
 set-spec =
     tie.close
     (tie.spec
-    find-handle-requires
+    find-listed-requires
     enum-known-i
     enum-told
     same-length

@@ -41,9 +41,6 @@ handle-at-requires c κs = search needs
 word-requires : tie.Need-word-requires
 word-requires c κs = search needs
 
-group-end-requires : tie.Need-group-end-requires
-group-end-requires c κs = search needs
-
 word-requires-2 : tie.Need-word-requires-2
 word-requires-2 c κs = search needs
 
@@ -52,15 +49,15 @@ same-length-2 c = search needs
 
 returns-4 : tie.Need-returns-4
 returns-4 c =
-    find-row _ _ _ _ _ _ _ _ _ _ _ _ (c .before .before .before .before .before .before .before .before .before .before .before .before .before .before .before .before .before .before .before .before .before .pre .2)
-    (c .before .before .before .before .before .before .before .before .before .before .before .available .ensures)
-    (sym (c .before .before .before .before .before .before .before .before .before .before .before .before .before .before .before .before .is-wanted .ensures) ∙ not-false _ (c .before .before .before .before .before .before .before .before .before .before .before .before .before .before .before .if1 .left))
-    (sym (c .before .before .before .before .before .before .before .before .before .before .before .before .before .before .holds .ensures) ∙ not-false _ (c .before .before .before .before .before .before .before .before .before .before .before .before .before .if2 .left))
-    (c .before .before .before .before .before .before .before .before .before .before .if3 .left) _ _
-    (c .before .before .before .before .before .before .before .before .handle-at .ensures)
-    (c .before .before .before .group-end .ensures)
-    (c .before .before .before .before .before .before .before .word .ensures .0)
-    (c .before .before .before .before .before .before .before .word .ensures .1)
+    find-row _ _ _ _ _ _ _ _ _ _ _ _ (c .before .before .before .before .before .before .before .before .before .before .before .before .before .before .before .before .before .before .before .before .pre .2)
+    (c .before .before .before .before .before .before .before .before .before .before .available .ensures)
+    (sym (c .before .before .before .before .before .before .before .before .before .before .before .before .before .before .before .is-wanted .ensures) ∙ not-false _ (c .before .before .before .before .before .before .before .before .before .before .before .before .before .before .if1 .left))
+    (sym (c .before .before .before .before .before .before .before .before .before .before .before .before .before .holds .ensures) ∙ not-false _ (c .before .before .before .before .before .before .before .before .before .before .before .before .if2 .left))
+    (c .before .before .before .before .before .before .before .before .before .if3 .left) _ _
+    (c .before .before .before .before .before .before .before .handle-at .ensures)
+    (c .before .before .before .before .before .before .before .before .before .before .before .before .before .before .before .before .before .before .before .before .pre .3)
+    (c .before .before .before .before .before .before .word .ensures .0)
+    (c .before .before .before .before .before .before .word .ensures .1)
     (c .before .before .word2 .ensures .0)
     (c .before .before .word2 .ensures .1)
 
@@ -77,7 +74,6 @@ find-turn-spec =
     returns-3
     handle-at-requires
     word-requires
-    group-end-requires
     word-requires-2
     same-length-2
     returns-4)

@@ -1,11 +1,12 @@
--- `finding::inner::put_found` meets its contract. The loop, by the laws of `Going`. Assumes nothing.
+-- `finding::inner::put_found` meets its contract. The loop, by the laws of `Going` and of the group met last. Assumes nothing.
 use mathlib.Core.List.{[]}
 use Prim.Native.Nat.{_-_}
 use native.Mathlib.Omega.{arith}
 use lib.ListN.{length}
 use borrow.Author.Tests.{not-true, not-false}
 use borrow.Author.Needs.{needs}
-use Rattle.attribute.specs.Lookup.{isWanted}
+use Rattle.attribute.specs.Lookup.{isWanted, InGroup}
+use Rattle.attribute.proofs.Entries.{no-group, group-here, group-later}
 use Rattle.model.proofs.Running.{Going, going-start, going-more, going-stop, going-end}
 use Rattle.model.specs.Run.{run}
 use Rattle.model.specs.Rows.{findTurn}
@@ -13,24 +14,27 @@ use Rattle.finding.proofs.inner.put_found.Statement.{statement}
 use Rattle.finding.proofs.inner.put_found.Tie as tie
 
 abbrev Inv-loop : tie.InvT-loop
-Inv-loop list store g uuid d out₀ c₀ i₀ out c i =
+Inv-loop list store g uuid d out₀ c₀ i₀ group₀ out c i group =
     let turn = findTurn store (isWanted (g .start) (g .end) uuid) d in
-    Going turn list out₀ c₀ (run turn list (length out₀ - c₀ .len)) out c i
+    Going turn list out₀ c₀ (run turn list (length out₀ - c₀ .len)) out c i × InGroup list i group
 
 abbrev μ-loop : tie.MeasureT-loop
-μ-loop list store g uuid d out₀ c₀ i₀ out c i = length list - i
+μ-loop list store g uuid d out₀ c₀ i₀ group₀ out c i group = length list - i
 
 loop-holds : tie.Need-loop-holds Inv-loop μ-loop
-loop-holds c = going-start _ [] _ _ _ 0 (omega arith) (c .before .before .before .before .pre .1)
+loop-holds c = (going-start _ [] _ _ _ 0 (omega arith) (c .before .before .before .before .pre .1), no-group (c .before .before .before .before .args .list .now) _)
+
+next-group-requires : tie.Need-next-group-requires Inv-loop μ-loop
+next-group-requires c κs = (c .loop-test .taken, c .before .loop .inv .1)
 
 find-turn-requires : tie.Need-find-turn-requires Inv-loop μ-loop
-find-turn-requires c κs = (omega arith, c .before .before .before .before .before .before .before .pre .0, c .before .before .loop .inv .room)
+find-turn-requires c κs = (c .before .before .loop-test .taken, c .before .before .before .before .before .before .before .before .pre .0, c .before .before .before .loop .inv .0 .room, group-here (c .before .before .before .before .before .before .before .before .args .list .now) _ _ (c .before .next-group .ensures .0) (c .before .next-group .ensures .1))
 
 same-length : tie.Need-same-length Inv-loop μ-loop
 same-length c = search needs
 
 returns : tie.Need-returns Inv-loop μ-loop
-returns c = going-stop _ [] _ _ _ _ _ _ _ (c .before .before .before .before .before .before .before .before .loop .inv) (c .before .before .before .before .before .before .before .loop-test .taken) _ _ (c .before .before .before .before .before .find-turn .ensures) (not-true _ (c .if1 .taken))
+returns c = going-stop _ [] _ _ _ _ _ _ _ (c .before .before .before .before .before .before .before .before .before .loop .inv .0) (c .before .before .before .before .before .before .before .before .loop-test .taken) _ _ (c .before .before .before .before .before .find-turn .ensures) (not-true _ (c .if1 .taken))
 
 add-i : tie.Need-add-i Inv-loop μ-loop
 add-i c = omega arith
@@ -39,13 +43,13 @@ loop-less : tie.Need-loop-less Inv-loop μ-loop
 loop-less c = omega arith
 
 loop-again : tie.Need-loop-again Inv-loop μ-loop
-loop-again c = going-more _ [] _ _ _ _ _ _ _ (c .before .before .before .before .before .before .before .before .loop .inv) (c .before .before .before .before .before .before .before .loop-test .taken) _ _ (c .before .before .before .before .before .find-turn .ensures) (not-false _ (c .if1 .left))
+loop-again c = (going-more _ [] _ _ _ _ _ _ _ (c .before .before .before .before .before .before .before .before .before .loop .inv .0) (c .before .before .before .before .before .before .before .before .loop-test .taken) _ _ (c .before .before .before .before .before .find-turn .ensures) (not-false _ (c .if1 .left)), group-later (c .before .before .before .before .before .before .before .before .before .before .before .before .before .before .args .list .now) _ _ (c .before .before .before .before .before .before .before .next-group .ensures .1))
 
 same-length-2 : tie.Need-same-length-2 Inv-loop μ-loop
 same-length-2 c = search needs
 
 returns-2 : tie.Need-returns-2 Inv-loop μ-loop
-returns-2 c = going-end _ [] _ _ _ _ _ _ _ (c .before .loop .inv) (c .loop-test .left)
+returns-2 c = going-end _ [] _ _ _ _ _ _ _ (c .before .loop .inv .0) (c .loop-test .left)
 
 pub put-found-spec : {M : Type 1} → statement M
 put-found-spec =
@@ -54,6 +58,7 @@ put-found-spec =
     Inv-loop
     μ-loop
     loop-holds
+    next-group-requires
     find-turn-requires
     same-length
     returns

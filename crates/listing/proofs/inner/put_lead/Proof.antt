@@ -15,10 +15,7 @@ same-length : tie.Need-same-length
 same-length c = search needs
 
 returns : tie.Need-returns
-returns c = lead-plain _ _ _ _ _ _ _ _ (c .before .before .before .before .before .before .before .before .pre .1) (c .before .before .before .before .before .handle-at .ensures) (c .before .before .before .before .word .ensures .0) (c .before .before .before .before .word .ensures .1) (not-true _ (c .if1 .taken))
-
-group-end-requires : tie.Need-group-end-requires
-group-end-requires c κs = search needs
+returns c = lead-plain _ _ _ _ _ _ _ _ (c .before .before .before .before .before .before .before .before .pre .0 .1) (c .before .before .before .before .before .handle-at .ensures) (c .before .before .before .before .word .ensures .0) (c .before .before .before .before .word .ensures .1) (not-true _ (c .if1 .taken))
 
 word-requires-2 : tie.Need-word-requires-2
 word-requires-2 c κs = search needs
@@ -27,7 +24,7 @@ same-length-2 : tie.Need-same-length-2
 same-length-2 c = search needs
 
 returns-2 : tie.Need-returns-2
-returns-2 c = lead-group _ _ _ _ _ _ _ _ (c .before .before .before .before .before .before .before .before .before .before .before .before .before .pre .1) (c .before .before .before .before .before .before .before .before .before .before .handle-at .ensures) (c .before .before .before .before .before .before .before .before .before .word .ensures .0) (c .before .before .before .before .before .before .before .before .before .word .ensures .1) (not-false _ (c .before .before .before .before .before .if1 .left)) _ _ _ (c .before .before .before .group-end .ensures) (c .before .before .word2 .ensures .0) (c .before .before .word2 .ensures .1)
+returns-2 c = let g = not-false _ (c .before .before .before .before .if1 .left) in lead-group _ _ _ _ _ _ _ _ (c .before .before .before .before .before .before .before .before .before .before .before .before .pre .0 .1) (c .before .before .before .before .before .before .before .before .before .handle-at .ensures) (c .before .before .before .before .before .before .before .before .word .ensures .0) (c .before .before .before .before .before .before .before .before .word .ensures .1) g _ _ _ (c .before .before .before .before .before .before .before .before .before .before .before .before .pre .1 g) (c .before .before .word2 .ensures .0) (c .before .before .word2 .ensures .1)
 
 pub put-lead-spec : {M : Type 1} → statement M
 put-lead-spec =
@@ -37,7 +34,6 @@ put-lead-spec =
     word-requires
     same-length
     returns
-    group-end-requires
     word-requires-2
     same-length-2
     returns-2)

@@ -13,7 +13,7 @@ enum-told : tie.Need-enum-told
 enum-told c = search needs
 
 returns : tie.Need-returns
-returns c = stopped _ _ _ (omega (arith, c .before .before .before .before .before .pre .1)) (no-value _ _ _ _ _ _ _ _ _ (c .enum-told .given .1))
+returns c = stopped _ _ _ (omega (arith, c .before .before .before .before .before .pre .1 .0)) (no-value _ _ _ _ _ _ _ _ _ (c .enum-told .given .1))
 
 available-requires : tie.Need-available-requires
 available-requires c κs = search needs
@@ -25,13 +25,13 @@ same-length : tie.Need-same-length
 same-length c = search needs
 
 returns-2 : tie.Need-returns-2
-returns-2 c = stopped _ _ _ (omega (arith, c .before .before .before .before .before .before .before .before .before .before .pre .1)) (other-size _ _ _ _ _ (c .before .before .before .before .before .before .before .before .before .before .args .size) _ _ _ (c .before .before .before .before .before .v .given .1) (span-inside _ _ _ _ (c .before .before .before .before .before .v .given .1) (c .before .before .before .before .before .before .before .before .before .before .pre .0 .1)) _ _ (c .before .cut .ensures) (c .before .before .available .ensures) (λ x. omega (arith, x, c .if1 .taken)))
+returns-2 c = stopped _ _ _ (omega (arith, c .before .before .before .before .before .before .before .before .before .before .pre .1 .0)) (other-size _ _ _ _ _ (c .before .before .before .before .before .before .before .before .before .before .args .size) _ _ _ (c .before .before .before .before .before .v .given .1) (span-inside _ _ _ _ (c .before .before .before .before .before .v .given .1) (c .before .before .before .before .before .before .before .before .before .before .pre .0 .1)) _ _ (c .before .cut .ensures) (c .before .before .available .ensures) (λ x. omega (arith, x, c .if1 .taken)))
 
 put-lead-requires : tie.Need-put-lead-requires
 put-lead-requires c κs = search needs
 
 append-span-requires : tie.Need-append-span-requires
-append-span-requires c κs = ((behind-lead _ _ _ _ _ _ _ (c .before .before .before .before .before .before .cut .result) (c .before .before .before .before .before .before .before .before .before .before .before .before .before .before .before .args .size) (omega (arith, c .before .before .before .before .before .if1 .left)) (c .before .before .before .before .before .before .before .before .before .before .before .before .before .before .before .pre .1) (c .before .before .before .put-lead .ensures), omega (arith, cut-le (c .before .before .before .before .before .before .before .before .before .before .before .before .before .before .before .args .form) (c .before .before .before .before .before .before .before .available .result) (c .before .before .before .before .before .before .before .before .before .before .v .given .0 .0 .len), c .before .before .before .before .before .before .cut .ensures)), span-inside _ _ _ _ (c .before .before .before .before .before .before .before .before .before .before .v .given .1) (c .before .before .before .before .before .before .before .before .before .before .before .before .before .before .before .pre .0 .1))
+append-span-requires c κs = ((behind-lead _ _ _ _ _ _ _ (c .before .before .before .before .before .before .cut .result) (c .before .before .before .before .before .before .before .before .before .before .before .before .before .before .before .args .size) (omega (arith, c .before .before .before .before .before .if1 .left)) (c .before .before .before .before .before .before .before .before .before .before .before .before .before .before .before .pre .1 .0) (c .before .before .before .put-lead .ensures), omega (arith, cut-le (c .before .before .before .before .before .before .before .before .before .before .before .before .before .before .before .args .form) (c .before .before .before .before .before .before .before .available .result) (c .before .before .before .before .before .before .before .before .before .before .v .given .0 .0 .len), c .before .before .before .before .before .before .cut .ensures)), span-inside _ _ _ _ (c .before .before .before .before .before .before .before .before .before .before .v .given .1) (c .before .before .before .before .before .before .before .before .before .before .before .before .before .before .before .pre .0 .1))
 
 same-length-2 : tie.Need-same-length-2
 same-length-2 c = search needs

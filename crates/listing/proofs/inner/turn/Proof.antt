@@ -17,7 +17,7 @@ is-wanted-requires : tie.Need-is-wanted-requires
 is-wanted-requires c κs = search needs
 
 returns : tie.Need-returns
-returns c = skipped _ _ _ (c .before .before .before .before .before .before .pre .1 .0) (turn-skip _ _ _ _ _ _ _ (drop (c .before .before .before .before .before .before .args .i + 1) (now (c .before .before .before .before .before .before .args .list))) (length (now (c .before .before .before .before .before .before .args .out)) - c .before .before .before .before .before .before .args .c .len) (sym (c .before .is-wanted .ensures) ∙ not-true _ (c .if1 .taken)))
+returns c = skipped _ _ _ (c .before .before .before .before .before .before .pre .1 .0 .0) (turn-skip _ _ _ _ _ _ _ (drop (c .before .before .before .before .before .before .args .i + 1) (now (c .before .before .before .before .before .before .args .list))) (length (now (c .before .before .before .before .before .before .args .out)) - c .before .before .before .before .before .before .args .c .len) (sym (c .before .is-wanted .ensures) ∙ not-true _ (c .if1 .taken)))
 
 available-requires : tie.Need-available-requires
 available-requires c κs = search needs
@@ -32,13 +32,13 @@ same-length : tie.Need-same-length
 same-length c = search needs
 
 returns-2 : tie.Need-returns-2
-returns-2 c = stopped _ _ _ (c .before .before .before .before .before .before .before .before .before .before .pre .1 .0) (turn-full _ _ _ _ _ _ _ (drop (c .before .before .before .before .before .before .before .before .before .before .args .i + 1) (now (c .before .before .before .before .before .before .before .before .before .before .args .list))) (length (now (c .before .before .before .before .before .before .before .before .before .before .args .out)) - c .before .before .before .before .before .before .before .before .before .before .args .c .len) (sym (c .before .before .before .before .before .is-wanted .ensures) ∙ not-false _ (c .before .before .before .before .if1 .left)) (omega (arith, c .if2 .taken, c .before .before .available .ensures, c .before .extra .ensures .0)))
+returns-2 c = stopped _ _ _ (c .before .before .before .before .before .before .before .before .before .before .pre .1 .0 .0) (turn-full _ _ _ _ _ _ _ (drop (c .before .before .before .before .before .before .before .before .before .before .args .i + 1) (now (c .before .before .before .before .before .before .before .before .before .before .args .list))) (length (now (c .before .before .before .before .before .before .before .before .before .before .args .out)) - c .before .before .before .before .before .before .before .before .before .before .args .c .len) (sym (c .before .before .before .before .before .is-wanted .ensures) ∙ not-false _ (c .before .before .before .before .if1 .left)) (omega (arith, c .if2 .taken, c .before .before .available .ensures, c .before .extra .ensures .0)))
 
 locate-at-requires : tie.Need-locate-at-requires
 locate-at-requires c κs = search needs
 
 put-value-requires : tie.Need-put-value-requires
-put-value-requires c κs = ((c .before .before .before .before .before .before .before .before .before .before .before .before .pre .0 .0, rw (c .before .locate-at .ensures) (at-inside _ _ (c .before .before .before .before .before .before .before .before .before .before .before .before .pre .0 .1 .table) _ (c .before .before .before .before .before .before .before .before .before .before .before .before .pre .0 .1 .right) _ (c .before .before .before .before .before .before .before .before .before .before .before .before .pre .0 .0) _)), omega (arith, c .before .before .if2 .left, c .before .before .before .before .available .ensures, c .before .before .before .extra .ensures .0, c .before .before .before .before .before .before .before .before .before .before .before .before .pre .1 .0))
+put-value-requires c κs = ((c .before .before .before .before .before .before .before .before .before .before .before .before .pre .0 .0, rw (c .before .locate-at .ensures) (at-inside _ _ (c .before .before .before .before .before .before .before .before .before .before .before .before .pre .0 .1 .table) _ (c .before .before .before .before .before .before .before .before .before .before .before .before .pre .0 .1 .right) _ (c .before .before .before .before .before .before .before .before .before .before .before .before .pre .0 .0) _)), (omega (arith, c .before .before .if2 .left, c .before .before .before .before .available .ensures, c .before .before .before .extra .ensures .0, c .before .before .before .before .before .before .before .before .before .before .before .before .pre .1 .0 .0), c .before .before .before .before .before .before .before .before .before .before .before .before .pre .1 .1))
 
 same-length-2 : tie.Need-same-length-2
 same-length-2 c = search needs

@@ -1,74 +1,76 @@
--- `state::inner::slots_ok` meets its contract. The invariant is residual: the test of the slots that are left is the test of all. Assumes nothing.
-use mathlib.Core.Path.{_≡_, refl, sym, _∙_}
-use Prim.Native.Nat.{_-_, _≤_}
-use native.Mathlib.Omega.{arith}
-use lib.ListN.{drop}
-use borrow.Author.Needs.{needs}
+-- `state::inner::slots_ok` meets its contract. Each test of all tables follows from the slots' test, and the last decides. Assumes nothing.
+use Rattle.state.proofs.Testing.{fronts, tails, values, not-slots, by-clears}
+use Rattle.state.specs.Tables.{every, sized, agrees}
+use Rattle.table_builder.proofs.Laws.{is-table}
+use Rattle.table_view.proofs.Shape.{long, fits}
+use Rattle.table_view.specs.Layout.{baseOf, endOf}
+use denote.Ref.{now}
 use borrow.Author.Tests.{not-true, not-false}
-use Rattle.state.specs.Valid.{slotsOk}
-use Rattle.state.proofs.Testing.{next-slot, bad-slot, last-slot}
+use lib.ListN.{length}
+use Prim.Native.Nat.{_-_}
+use mathlib.Core.List.{[]}
+use mathlib.Core.Bool.{true}
+use mathlib.Core.Path.{_≡_, refl, sym, _∙_}
+use native.Mathlib.Omega.{arith}
 use Rattle.state.proofs.inner.slots_ok.Statement.{statement}
 use Rattle.state.proofs.inner.slots_ok.Tie as tie
 
-abbrev Inv-loop : tie.InvT-loop
-Inv-loop tables fresh row i₀ i = (i ≤ 8) × (slotsOk fresh (drop i row) (drop i tables) ≡ slotsOk fresh row tables)
+row-long : (c : tie.Start) → length (c .args .row) ≡ 8
+row-long c = omega (arith, c .good)
 
-abbrev μ-loop : tie.MeasureT-loop
-μ-loop tables fresh row i₀ i = 8 - i
+fresh-long : (c : tie.After-values-base-arg) → length (now (c .before .args .fresh)) ≡ 640
+fresh-long c = search (c .values-base-arg .given)
 
-loop-holds : tie.Need-loop-holds Inv-loop μ-loop
-loop-holds c = (omega arith, refl)
+sizes : (c : tie.After-same-front) → every sized (now (c .before .before .before .args .all)) ≡ true
+sizes c = c .same-front .ensures .1 (omega (arith, c .before .values-base .ensures .0))
 
-mul-s : tie.Need-mul-s Inv-loop μ-loop
-mul-s c = omega arith
+front : (c : tie.After-same-front) → c .same-front .result ≡ every (agrees (now (c .before .before .before .args .fresh)) (baseOf (now (c .before .before .before .args .fresh))) 0) (now (c .before .before .before .args .all))
+front c = c .same-front .ensures .0 ∙ rw (c .before .values-base .ensures .0) refl
 
-array-copy-out-s : tie.Need-array-copy-out-s Inv-loop μ-loop
-array-copy-out-s c = omega arith
+tail : (c : tie.After-zero-from) → c .zero-from .result ≡ every (agrees [] (640 - endOf (now (c .before .before .before .before .before .before .before .args .fresh))) (endOf (now (c .before .before .before .before .before .before .before .args .fresh)))) (now (c .before .before .before .before .before .before .before .args .all))
+tail c = c .zero-from .ensures ∙ rw (c .before .values-end .ensures .0) refl
 
-mul-slot-ok : tie.Need-mul-slot-ok Inv-loop μ-loop
-mul-slot-ok c = omega arith
+values-base-requires : tie.Need-values-base-requires
+values-base-requires c κs = long _ (is-table _ (c .before .pre .1))
 
-shared-slice-element-slot-ok : tie.Need-shared-slice-element-slot-ok Inv-loop μ-loop
-shared-slice-element-slot-ok c = omega arith
+same-front-requires : tie.Need-same-front-requires
+same-front-requires c κs = (c .before .before .pre .0, omega (arith, fits _ (is-table _ (c .before .before .pre .1)), fresh-long (c .before), c .values-base .ensures .0))
 
-slot-ok-requires : tie.Need-slot-ok-requires Inv-loop μ-loop
-slot-ok-requires c κs = (search needs, search needs, c .before .before .before .before .before .before .pre .1)
+returns : tie.Need-returns
+returns c = not-slots (c .before .before .before .before .args .fresh .now) (c .before .before .before .before .args .row) (c .before .before .before .before .args .all .now) (fresh-long (c .before .before .before)) (c .before .before .before .before .pre .1) (row-long (c .before .before .before .before)) (c .before .before .before .before .pre .0) (sizes (c .before)) _ (fronts (c .before .before .before .before .args .fresh .now) (c .before .before .before .before .args .row) (c .before .before .before .before .args .all .now) (fresh-long (c .before .before .before)) (c .before .before .before .before .pre .1) (row-long (c .before .before .before .before)) (c .before .before .before .before .pre .0) (sizes (c .before))) (sym (front (c .before)) ∙ not-true _ (c .if1 .taken))
 
-returns : tie.Need-returns Inv-loop μ-loop
-returns c =
-    bad-slot _ (c .before .before .before .before .before .before .before .before .args .t1) _ _ _
-    (c .before .before .before .before .before .before .before .loop .inv .1)
-    (omega (arith, c .before .before .before .before .before .before .before .before .good)) (omega arith)
-    (sym (c .before .slot-ok .ensures) ∙ not-true _ (c .if1 .taken))
+values-end-requires : tie.Need-values-end-requires
+values-end-requires c κs = long _ (is-table _ (c .before .before .before .before .before .pre .1))
 
-add-i : tie.Need-add-i Inv-loop μ-loop
-add-i c = omega arith
+zero-from-requires : tie.Need-zero-from-requires
+zero-from-requires c κs = (c .before .before .before .before .before .before .pre .0, omega (arith, fits _ (is-table _ (c .before .before .before .before .before .before .pre .1)), fresh-long (c .before .before .before .before .before), c .values-end .ensures .0))
 
-loop-less : tie.Need-loop-less Inv-loop μ-loop
-loop-less c = omega arith
+returns-2 : tie.Need-returns-2
+returns-2 c = not-slots (c .before .before .before .before .before .before .before .before .args .fresh .now) (c .before .before .before .before .before .before .before .before .args .row) (c .before .before .before .before .before .before .before .before .args .all .now) (fresh-long (c .before .before .before .before .before .before .before)) (c .before .before .before .before .before .before .before .before .pre .1) (row-long (c .before .before .before .before .before .before .before .before)) (c .before .before .before .before .before .before .before .before .pre .0) (sizes (c .before .before .before .before .before)) _ (tails (c .before .before .before .before .before .before .before .before .args .fresh .now) (c .before .before .before .before .before .before .before .before .args .row) (c .before .before .before .before .before .before .before .before .args .all .now) (fresh-long (c .before .before .before .before .before .before .before)) (c .before .before .before .before .before .before .before .before .pre .1) (row-long (c .before .before .before .before .before .before .before .before)) (c .before .before .before .before .before .before .before .before .pre .0) (sizes (c .before .before .before .before .before))) (sym (tail (c .before)) ∙ not-true _ (c .if2 .taken))
 
-loop-again : tie.Need-loop-again Inv-loop μ-loop
-loop-again c = (omega arith, next-slot _ (c .before .before .before .before .before .before .before .before .args .t1) _ _ _ (c .before .before .before .before .before .before .before .loop .inv .1) (omega (arith, c .before .before .before .before .before .before .before .before .good)) (omega arith) (sym (c .before .slot-ok .ensures) ∙ not-false _ (c .if1 .left)))
+values-ok-requires : tie.Need-values-ok-requires
+values-ok-requires c κs = ((c .before .before .before .before .before .before .before .before .pre .0, fresh-long (c .before .before .before .before .before .before .before), c .before .before .before .before .before .before .before .before .pre .1), (sizes (c .before .before .before .before .before), (sym (front (c .before .before .before .before .before)) ∙ not-false _ (c .before .before .before .before .if1 .left))))
 
-returns-2 : tie.Need-returns-2 Inv-loop μ-loop
-returns-2 c =
-    last-slot _ (c .before .before .args .t1) (c .before .before .args .tables .now) (c .before .loop .i) _
-    (c .before .loop .inv .1) (omega (arith, c .before .before .good)) (omega arith)
+returns-3 : tie.Need-returns-3
+returns-3 c = not-slots (c .before .before .before .before .before .before .before .before .before .before .args .fresh .now) (c .before .before .before .before .before .before .before .before .before .before .args .row) (c .before .before .before .before .before .before .before .before .before .before .args .all .now) (fresh-long (c .before .before .before .before .before .before .before .before .before)) (c .before .before .before .before .before .before .before .before .before .before .pre .1) (row-long (c .before .before .before .before .before .before .before .before .before .before)) (c .before .before .before .before .before .before .before .before .before .before .pre .0) (sizes (c .before .before .before .before .before .before .before)) _ (values (c .before .before .before .before .before .before .before .before .before .before .args .fresh .now) (c .before .before .before .before .before .before .before .before .before .before .args .row) (c .before .before .before .before .before .before .before .before .before .before .args .all .now) (fresh-long (c .before .before .before .before .before .before .before .before .before)) (c .before .before .before .before .before .before .before .before .before .before .pre .1) (row-long (c .before .before .before .before .before .before .before .before .before .before)) (c .before .before .before .before .before .before .before .before .before .before .pre .0) (sizes (c .before .before .before .before .before .before .before))) (sym (c .before .values-ok .ensures) ∙ not-true _ (c .if3 .taken))
+
+clears-ok-requires : tie.Need-clears-ok-requires
+clears-ok-requires c κs = (c .before .before .before .before .before .before .before .before .before .before .pre .0, omega (arith, c .before .before .before .before .before .before .before .before .values-base .ensures .0, c .before .before .before .before .values-end .ensures .0), omega (arith, fits _ (is-table _ (c .before .before .before .before .before .before .before .before .before .before .pre .1)), fresh-long (c .before .before .before .before .before .before .before .before .before), c .before .before .before .before .values-end .ensures .0))
+
+returns-4 : tie.Need-returns-4
+returns-4 c = c .clears-ok .ensures ∙ rw (c .before .before .before .before .before .before .before .before .before .values-base .ensures .0, c .before .before .before .before .before .values-end .ensures .0) (by-clears (c .before .before .before .before .before .before .before .before .before .before .before .args .fresh .now) (c .before .before .before .before .before .before .before .before .before .before .before .args .row) (c .before .before .before .before .before .before .before .before .before .before .before .args .all .now) (fresh-long (c .before .before .before .before .before .before .before .before .before .before)) (c .before .before .before .before .before .before .before .before .before .before .before .pre .1) (row-long (c .before .before .before .before .before .before .before .before .before .before .before)) (c .before .before .before .before .before .before .before .before .before .before .before .pre .0) (sizes (c .before .before .before .before .before .before .before .before)) (sym (front (c .before .before .before .before .before .before .before .before)) ∙ not-false _ (c .before .before .before .before .before .before .before .if1 .left)) (sym (tail (c .before .before .before .before)) ∙ not-false _ (c .before .before .before .if2 .left)) (sym (c .before .before .values-ok .ensures) ∙ not-false _ (c .before .if3 .left)))
 
 pub slots-ok-spec : {M : Type 1} → statement M
 slots-ok-spec =
     tie.close
     (tie.spec
-    Inv-loop
-    μ-loop
-    loop-holds
-    mul-s
-    array-copy-out-s
-    mul-slot-ok
-    shared-slice-element-slot-ok
-    slot-ok-requires
+    values-base-requires
+    same-front-requires
     returns
-    add-i
-    loop-less
-    loop-again
-    returns-2)
+    values-end-requires
+    zero-from-requires
+    returns-2
+    values-ok-requires
+    returns-3
+    clears-ok-requires
+    returns-4)

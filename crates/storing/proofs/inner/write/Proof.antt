@@ -10,6 +10,7 @@ use Rattle.attribute.specs.Record.{attributeOf}
 use Rattle.attribute.specs.Lookup.{placeOf}
 use Rattle.attribute.specs.Needs.{mayWrite}
 use Rattle.attribute.specs.declared.Attribute.{Attribute}
+use Rattle.attribute.proofs.Halves.{ascending}
 use Rattle.model.proofs.Leaving.{listed}
 use Rattle.storing.proofs.Writing.{not-listed, not-met, met}
 use denote.Ref.{now}
@@ -17,7 +18,7 @@ use Rattle.storing.proofs.inner.write.Statement.{statement}
 use Rattle.storing.proofs.inner.write.Tie as tie
 
 at : (c : tie.After-i) → placeOf (now (c .before .before .before .before .before .before .args .list)) (c .before .before .before .before .before .before .args .handle) ≡ At (c .i .given .0 .0)
-at c = sym (c .before .before .find-handle .ensures) ∙ c .i .given .1
+at c = sym (c .before .before .find-listed .ensures) ∙ c .i .given .1
 
 inside : (c : tie.After-i) → c .i .given .0 .0 < length (now (c .before .before .before .before .before .before .args .list))
 inside c = listed _ _ _ (at c)
@@ -25,8 +26,8 @@ inside c = listed _ _ _ (at c)
 told : (c : tie.After-may-write) → mayWrite (attributeOf (getD (now (c .before .before .before .before .before .before .before .before .before .before .args .list)) (c .before .before .before .before .i .given .0 .0) [])) (c .before .before .before .before .before .before .before .before .before .before .args .link) ≡ c .may-write .result
 told c = ap (λ (a : Attribute). mayWrite a (c .before .before .before .before .before .before .before .before .before .before .args .link)) (sym (c .before .decode .ensures)) ∙ sym (c .may-write .ensures)
 
-find-handle-requires : tie.Need-find-handle-requires
-find-handle-requires c κs = search needs
+find-listed-requires : tie.Need-find-listed-requires
+find-listed-requires c κs = ascending _ _ (c .before .before .before .pre .right)
 
 enum-known-i : tie.Need-enum-known-i
 enum-known-i c = search needs
@@ -40,7 +41,7 @@ same-length c = search needs
 returns : tie.Need-returns
 returns c =
     let a = c .before .before .before .before .before .before .args in
-    not-listed (a .link) (a .list .now) (a .store .now) (a .tables .now) _ _ _ (a .d .now) (sym (c .before .before .find-handle .ensures) ∙ c .enum-told .given .1)
+    not-listed (a .link) (a .list .now) (a .store .now) (a .tables .now) _ _ _ (a .d .now) (sym (c .before .before .find-listed .ensures) ∙ c .enum-told .given .1)
 
 mul-decode : tie.Need-mul-decode
 mul-decode c = omega (arith, inside (c .before))
@@ -90,7 +91,7 @@ pub write-spec : {M : Type 1} → statement M
 write-spec =
     tie.close
     (tie.spec
-    find-handle-requires
+    find-listed-requires
     enum-known-i
     enum-told
     same-length

@@ -8,8 +8,8 @@ use borrow.Author.Needs.{needs}
 use Rattle.values.proofs.inner.locate.Statement.{statement}
 use Rattle.values.proofs.inner.locate.Tie as tie
 
-find-handle-requires : tie.Need-find-handle-requires
-find-handle-requires c κs = search needs
+find-listed-requires : tie.Need-find-listed-requires
+find-listed-requires c κs = search needs
 
 enum-known-i : tie.Need-enum-known-i
 enum-known-i c = search needs
@@ -18,15 +18,15 @@ enum-told : tie.Need-enum-told
 enum-told c = search needs
 
 returns : tie.Need-returns
-returns c = absent _ _ _ _ (sym (c .before .before .find-handle .ensures) ∙ c .enum-told .given .1)
+returns c = absent _ _ _ _ (sym (c .before .before .find-listed .ensures) ∙ c .enum-told .given .1)
 
 locate-at-requires : tie.Need-locate-at-requires
-locate-at-requires c κs = (placed (hasHandle _) [] (c .before .before .before .before .before .args .list .now) 0 _ (sym (c .before .before .before .find-handle .ensures) ∙ c .before .i .given .1) .inside, c .before .before .before .before .before .pre)
+locate-at-requires c κs = (placed (hasHandle _) [] (c .before .before .before .before .before .args .list .now) 0 _ (sym (c .before .before .before .find-listed .ensures) ∙ c .before .i .given .1) .inside, c .before .before .before .before .before .pre .1)
 
 returns-2 : tie.Need-returns-2
-returns-2 c = c .locate-at .ensures ∙ listed _ _ _ _ _ (sym (c .before .before .before .before .find-handle .ensures) ∙ c .before .before .i .given .1)
+returns-2 c = c .locate-at .ensures ∙ listed _ _ _ _ _ (sym (c .before .before .before .before .find-listed .ensures) ∙ c .before .before .i .given .1)
 
 pub locate-spec : {M : Type 1} → statement M
 locate-spec =
     tie.close
-    (tie.spec find-handle-requires enum-known-i enum-told returns locate-at-requires returns-2)
+    (tie.spec find-listed-requires enum-known-i enum-told returns locate-at-requires returns-2)

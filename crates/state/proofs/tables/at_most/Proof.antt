@@ -1,0 +1,62 @@
+-- `state::tables::at_most` meets its contract. The invariant is residual: the test of the tables that are left is the test of all. Assumes nothing.
+use Rattle.state.proofs.Columns.{next-table, bad-table, last-table}
+use Rattle.state.specs.Tables.{every}
+use Rattle.wire.specs.Number.{word}
+use borrow.Author.Tests.{lt-leb, le-leb}
+use lib.Dec.{leb}
+use mathlib.Core.List.{[]}
+use lib.ListN.{getD, drop}
+use Prim.Native.Nat.{_≤_, _-_}
+use mathlib.Core.Path.{_≡_, refl}
+use native.Mathlib.Omega.{arith}
+use Rattle.state.proofs.tables.at_most.Statement.{statement}
+use Rattle.state.proofs.tables.at_most.Tie as tie
+
+abbrev Inv-loop : tie.InvT-loop
+Inv-loop tables at n k₀ k = (k ≤ 8) × (every (λ t. leb (word t at) n) (drop k tables) ≡ every (λ t. leb (word t at) n) tables)
+
+abbrev μ-loop : tie.MeasureT-loop
+μ-loop tables at n k₀ k = 8 - k
+
+loop-holds : tie.Need-loop-holds Inv-loop μ-loop
+loop-holds c = (omega arith, refl)
+
+mul-number : tie.Need-mul-number Inv-loop μ-loop
+mul-number c = omega arith
+
+shared-slice-element-number : tie.Need-shared-slice-element-number Inv-loop μ-loop
+shared-slice-element-number c = omega arith
+
+number-requires : tie.Need-number-requires Inv-loop μ-loop
+number-requires c κs = omega arith
+
+returns : tie.Need-returns Inv-loop μ-loop
+returns c = bad-table (λ t. leb (word t (c .before .before .before .before .before .before .args .at)) (c .before .before .before .before .before .before .args .n)) (c .before .before .before .before .before .before .args .tables .now) _ _ (c .before .before .before .before .before .loop .inv .1) (omega arith) (lt-leb (word (getD (c .before .before .before .before .before .before .args .tables .now) (c .before .before .before .before .before .loop .k) []) (c .before .before .before .before .before .before .args .at)) _ (omega (arith, c .before .number .ensures .0)))
+
+add-k : tie.Need-add-k Inv-loop μ-loop
+add-k c = omega arith
+
+loop-less : tie.Need-loop-less Inv-loop μ-loop
+loop-less c = omega arith
+
+loop-again : tie.Need-loop-again Inv-loop μ-loop
+loop-again c = (omega arith, next-table (λ t. leb (word t (c .before .before .before .before .before .before .args .at)) (c .before .before .before .before .before .before .args .n)) (c .before .before .before .before .before .before .args .tables .now) _ _ (c .before .before .before .before .before .loop .inv .1) (omega arith) (le-leb (word (getD (c .before .before .before .before .before .before .args .tables .now) (c .before .before .before .before .before .loop .k) []) (c .before .before .before .before .before .before .args .at)) _ (omega (arith, c .before .number .ensures .0))))
+
+returns-2 : tie.Need-returns-2 Inv-loop μ-loop
+returns-2 c = last-table (λ t. leb (word t (c .before .before .args .at)) (c .before .before .args .n)) (c .before .before .args .tables .now) (c .before .loop .k) _ (c .before .loop .inv .1) (omega arith)
+
+pub at-most-spec : {M : Type 1} → statement M
+at-most-spec =
+    tie.close
+    (tie.spec
+    Inv-loop
+    μ-loop
+    loop-holds
+    mul-number
+    shared-slice-element-number
+    number-requires
+    returns
+    add-k
+    loop-less
+    loop-again
+    returns-2)

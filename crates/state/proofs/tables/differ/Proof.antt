@@ -1,0 +1,16 @@
+-- `state::tables::differ` meets its contract. Assumes nothing.
+use mathlib.Core.Path.{refl}
+use lib.ListN.{getD}
+use borrow.Author.Needs.{needs}
+use Rattle.wire.proofs.Fold.{differs}
+use Rattle.state.proofs.tables.differ.Statement.{statement}
+use Rattle.state.proofs.tables.differ.Tie as tie
+
+shared-slice-read-result : tie.Need-shared-slice-read-result
+shared-slice-read-result c = search needs
+
+returns : tie.Need-returns
+returns c = differs (getD (c .before .args .t .now) (c .before .args .j) 0) (c .before .args .f) _ refl
+
+pub differ-spec : {M : Type 1} → statement M
+differ-spec = tie.close (tie.spec shared-slice-read-result returns)
