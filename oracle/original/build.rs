@@ -1,6 +1,6 @@
 //! Finds the Rust original in ORACLE_SRC and has its files compiled where they stand: nothing of it is copied into the
-//! project. Two runs of lines of its attribute.rs (the rules of values, and the subscription bits) are cut out, unchanged,
-//! into Cargo's output folder.
+//! project. Runs of lines of its attribute.rs (the rules of values, the subscription bits, its own list) are cut out,
+//! unchanged, into Cargo's output folder.
 
 use std::path::{Path, PathBuf};
 use std::{env, fs, process};
@@ -17,6 +17,7 @@ fn main() {
     let attribute = read(&source.join("attribute.rs"));
     write(&out.join("values.rs"), &values(&attribute));
     write(&out.join("subscriptions.rs"), from(&attribute, "/// CCCD flag values."));
+    write(&out.join("own_list.rs"), &own_list(&attribute));
 }
 
 fn find_source() -> PathBuf {
@@ -41,14 +42,39 @@ fn modules(source: &Path) -> String {
     )
 }
 
+/// Where the kinds of values start.
+const DATA: &str = "#[derive(Debug, PartialEq, Eq)]\npub(crate) enum AttributeData<'d>";
+
 fn values(attribute: &str) -> String {
-    let data = "#[derive(Debug, PartialEq, Eq)]\npub(crate) enum AttributeData<'d>";
     let parts = [
-        until(from(attribute, data), "impl From<Uuid> for AttributeData<'_>"),
+        until(from(attribute, DATA), "impl From<Uuid> for AttributeData<'_>"),
         until(
             from(attribute, "impl AttributeData<'_> {"),
             "impl fmt::Debug for Attribute<'_>",
         ),
+    ];
+    parts.concat()
+}
+
+/// Permissions, attributes, their iterator with the group ends, and the table of them up to the calls that fill it.
+fn own_list(attribute: &str) -> String {
+    let permissions =
+        "/// Attribute permissions\n#[derive(Default, Debug, Clone, Copy, PartialEq, Eq, PartialOrd, Ord)]";
+    let parts = [
+        until(
+            from(attribute, permissions),
+            "/// A GATT characteristic declaration value.",
+        ),
+        until(from(attribute, "/// Attribute metadata."), DATA),
+        until(
+            from(attribute, "pub struct AttributeIterator<'a, 'd> {"),
+            "/// A GATT service.",
+        ),
+        until(
+            from(attribute, "/// A table of attributes."),
+            "    /// Add a service to the attribute table",
+        ),
+        "}\n",
     ];
     parts.concat()
 }

@@ -21,13 +21,14 @@ pub enum Kind {
     LongClientValue,
     LongRow,
     UuidForms,
+    UuidLength,
     RowLeftBehind,
     MultipleOpcode,
     MultipleShort,
 }
 
 impl Kind {
-    pub const ALL: [Kind; 12] = [
+    pub const ALL: [Kind; 13] = [
         Kind::BadList,
         Kind::ListTooLong,
         Kind::BadState,
@@ -37,6 +38,7 @@ impl Kind {
         Kind::LongClientValue,
         Kind::LongRow,
         Kind::UuidForms,
+        Kind::UuidLength,
         Kind::RowLeftBehind,
         Kind::MultipleOpcode,
         Kind::MultipleShort,
@@ -60,6 +62,9 @@ impl Kind {
                  byte wraps"
             }
             Kind::UuidForms => "the 16-bit and 128-bit form of one UUID are equal, and both end groups; not in the Rust",
+            Kind::UuidLength => {
+                "Read By Type (Group): a UUID of other than 2 or 16 bytes is no entry's; the Rust can't be asked for it"
+            }
             Kind::RowLeftBehind => {
                 "Read By Type (Group): bytes past the response stay as lent; the Rust leaves a rejected row there"
             }
@@ -201,16 +206,38 @@ fn uuid_forms(call: &Call, hub: &Hub) -> Option<Kind> {
     (asked || listed).then_some(Kind::UuidForms)
 }
 
+/// A request for a UUID of another length than an entry's, and the answer of the original when it is asked for a UUID that no
+/// entry has: such requests change nothing.
+pub fn no_such_uuid(call: &Call, hub: &Hub) -> Option<(Kind, Answer)> {
+    let mut call = call.clone();
+    let uuid = uuid_of(&mut call)?;
+    if matches!(uuid.len(), 2 | 16) {
+        return None;
+    }
+    *uuid = (0..)
+        .map(|byte| vec![byte; 16])
+        .find(|uuid| hub.list().iter().all(|entry| entry.uuid != *uuid))?;
+    let (answer, _) = hub.call(&call);
+    Some((Kind::UuidLength, answer))
+}
+
 fn with_shortest_uuid(call: &Call) -> Call {
     let mut call = call.clone();
-    if let Call::Process {
-        request: Request::ReadByType { uuid, .. } | Request::ReadByGroupType { uuid, .. },
-        ..
-    } = &mut call
-    {
+    if let Some(uuid) = uuid_of(&mut call) {
         *uuid = list::shortest(uuid).to_vec();
     }
     call
+}
+
+/// The UUID that a read by type asks for.
+fn uuid_of(call: &mut Call) -> Option<&mut Vec<u8>> {
+    match call {
+        Call::Process {
+            request: Request::ReadByType { uuid, .. } | Request::ReadByGroupType { uuid, .. },
+            ..
+        } => Some(uuid),
+        _ => None,
+    }
 }
 
 fn stopped(answer: &Answer, why: &str) -> bool {

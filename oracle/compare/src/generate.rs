@@ -1,5 +1,6 @@
 //! Random calls on a hub, drawn from its present state so that offsets and lengths fall around each limit.
 
+use crate::boundary::Spelling;
 use crate::lists::{self, TYPES};
 use crate::ours::Ours;
 use crate::pair::Step;
@@ -43,9 +44,11 @@ impl<'a> Calls<'a> {
         };
         let change = self.random.once_in(12);
         let poke = change.then(|| pokes::poke(&mut self.random, hub, &self.tablets, record));
+        let by_numbers = self.random.once_in(2);
         Step {
             poke: poke.flatten(),
             call,
+            spelling: by_numbers.then(|| Spelling::draw(&mut self.random)),
         }
     }
 
@@ -165,7 +168,11 @@ impl<'a> Calls<'a> {
             }
             50..=56 => self.prepare(ours, record, room),
             _ => Request::ExecuteWrite {
-                flags: self.random.pick(&[1, 1, 1, 0, 2, 255]),
+                flags: if self.random.once_in(2) {
+                    1
+                } else {
+                    self.random.next() as u8
+                },
             },
         }
     }
@@ -262,8 +269,15 @@ impl<'a> Calls<'a> {
                 &[low, high] => original::list::widened(u16::from_le_bytes([low, high])),
                 _ => uuid,
             },
+            (3, Some(uuid)) if self.random.once_in(4) => self.of_other_length(uuid),
             (_, Some(uuid)) => uuid,
         }
+    }
+
+    /// A UUID cut or filled up with zeros, so that it has neither 2 nor 16 bytes. One of 4 is as the 32-bit form stands.
+    fn of_other_length(&mut self, mut uuid: Vec<u8>) -> Vec<u8> {
+        uuid.resize(self.random.pick(&[0, 1, 3, 4, 4, 8, 15, 17, 18, 32, 255]), 0);
+        uuid
     }
 
     fn find_by_type_value(&mut self, ours: &Ours) -> Request {

@@ -9,6 +9,7 @@ pub const TYPES: [u16; 6] = [0x2800, 0x2801, 0x2803, 0x2902, 0x2A00, 0xFF01];
 
 const CAPACITIES: [usize; 12] = [0, 1, 2, 4, 8, 19, 20, 21, 22, 251, 253, 511];
 
+#[derive(Clone)]
 pub struct List {
     pub entries: Vec<Entry>,
     pub store: Vec<u8>,
@@ -24,6 +25,56 @@ struct Style {
     clients: usize,
     /// Needs other than "any link" occur.
     guarded: bool,
+}
+
+/// Lists for what is enumerated: one with every kind of value and capacities around limits; a small one; one without client
+/// values; one without entries; one whose table takes all of its 640 bytes.
+pub fn sample_lists() -> Vec<List> {
+    vec![
+        written(&[
+            ("sf", 0x2800, 2),
+            ("sv", 0x2A00, 8),
+            ("cv", 0xFF01, 8),
+            ("cf", 0x2902, 2),
+            ("cv", 0xFF01, 0),
+            ("cf", 0xFF01, 0),
+            ("sv", 0x2A00, 0),
+            ("cv", 0xFF01, 1),
+            ("cv", 0x2A00, 300),
+            ("sv", 0x2A00, 1),
+            ("sf", 0x2801, 2),
+            ("sf", 0x2A00, 8),
+            ("sv", 0x2A00, 512),
+        ]),
+        written(&[("sv", 0x2A00, 4), ("cf", 0x2902, 2), ("cv", 0xFF01, 4)]),
+        written(&[("sf", 0x2800, 2), ("sv", 0xFF01, 512)]),
+        written(&[]),
+        written(&[("cv", 0xFF01, 512), ("cf", 0xFF01, 114)]),
+    ]
+}
+
+/// A list of values by kind, type and capacity, at every second handle, for any link. Variable ones have half their capacity.
+pub fn written(values: &[(&str, u16, u16)]) -> List {
+    let mut end = 0;
+    let entry = |(i, (kind, uuid, capacity)): (usize, &(&str, u16, u16))| {
+        let (shared, variable) = (kind.starts_with('s'), kind.ends_with('v'));
+        let start = end;
+        end += if shared { *capacity } else { 0 };
+        Entry {
+            handle: 1 + 2 * i as u16,
+            uuid: uuid.to_le_bytes().to_vec(),
+            read: 1,
+            write: 1,
+            shared,
+            variable,
+            capacity: *capacity,
+            start,
+            len: if variable { *capacity / 2 } else { *capacity },
+        }
+    };
+    let entries = values.iter().enumerate().map(entry).collect();
+    let store = vec![0x5A; end.into()];
+    List { entries, store }
 }
 
 /// A list of which most pass rule 1, and some have too many client values.

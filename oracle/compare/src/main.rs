@@ -1,23 +1,39 @@
 //! Runs the proved library and the Rust original side by side on random hubs and calls.
 //!
 //!     compare [--seed N] [--calls N]
+//!     compare [--seed N] [--calls N] --sessions PROGRAM
 //!
 //! After each call the answers and the whole states are compared. A difference must be of a kind that `differences.rs`
-//! knows; any other is printed, as the shortest session found that shows it, and the program fails.
+//! knows; any other is printed, as the shortest session found that shows it, and the program fails. With `--sessions` it is
+//! PROGRAM, the project's `session`, that answers.
 
+mod boundary;
+mod corners;
 mod differences;
 mod generate;
+mod lent;
+mod limits;
 mod lists;
+mod numbers;
+mod orders;
 mod ours;
+mod own_list;
 mod pair;
 mod pokes;
 mod random;
+mod rows;
+mod saved;
+mod sessions;
+mod states;
+mod systematic;
+mod table_calls;
+mod tables;
 
 use differences::Kind;
 use generate::Calls;
 use lists::List;
 use original::calls::Hex;
-use original::{Answer, Call};
+use original::{Answer, Call, Entry};
 use pair::{Counts, Pair, Step};
 use random::Random;
 use std::collections::BTreeMap;
@@ -26,11 +42,13 @@ use std::process::ExitCode;
 struct Options {
     seed: u64,
     calls: u64,
+    /// The program that runs sessions.
+    sessions: Option<String>,
 }
 
 /// A difference of no known kind, and the calls that lead to it.
 struct Fault {
-    seed: u64,
+    origin: String,
     list: List,
     steps: Vec<Step>,
     what: String,
@@ -43,44 +61,64 @@ struct Totals {
     /// Answers by the word that names the call in a session, then by what kind of answer.
     answers: BTreeMap<String, BTreeMap<String, u64>>,
     counts: Counts,
+    own_list: own_list::Counts,
+}
+
+impl Totals {
+    fn count(&mut self, call: &Call, answer: &Answer) {
+        self.calls += 1;
+        let answers = self.answers.entry(word(call)).or_default();
+        *answers.entry(sort(call, answer)).or_default() += 1;
+    }
 }
 
 fn main() -> ExitCode {
     let options = match options() {
         Ok(options) => options,
         Err(why) => {
-            eprintln!("compare: {why}\nusage: compare [--seed N] [--calls N]");
+            eprintln!("compare: {why}\nusage: compare [--seed N] [--calls N] [--sessions PROGRAM]");
             return ExitCode::from(2);
         }
     };
+    if let Some(program) = &options.sessions {
+        return sessions::run(&options, program);
+    }
     let mut totals = Totals::default();
+    if let Err(fault) = run(&options, &mut totals) {
+        report(&shrunk(fault));
+        println!("compare: failed after {} calls", totals.calls);
+        return ExitCode::FAILURE;
+    }
+    print_totals(&options, &totals)
+}
+
+/// The enumerated part, then random hubs until there are as many calls as asked for.
+fn run(options: &Options, totals: &mut Totals) -> Result<(), Fault> {
+    systematic::run(totals)?;
+    own_list::run(options.seed, totals)?;
+    let enumerated = totals.calls;
     let mut seed = options.seed;
-    while totals.calls < options.calls {
-        if let Err(fault) = run_hub(seed, &mut totals) {
-            report(&shrunk(fault));
-            println!("compare: failed after {} calls", totals.calls);
-            return ExitCode::FAILURE;
-        }
+    while totals.calls < enumerated + options.calls {
+        run_hub(seed, totals)?;
         seed = seed.wrapping_add(1);
     }
-    print_totals(&options, &totals);
-    ExitCode::SUCCESS
+    Ok(())
 }
 
 fn options() -> Result<Options, String> {
     let mut options = Options {
         seed: 1,
         calls: 200_000,
+        sessions: None,
     };
     let mut words = std::env::args().skip(1);
     while let Some(word) = words.next() {
-        let number = words
-            .next()
-            .and_then(|text| text.parse().ok())
-            .ok_or(format!("{word} needs a number"))?;
+        let value = words.next().ok_or(format!("{word} needs a value"))?;
+        let number = value.parse().map_err(|_| format!("{word} needs a number"));
         match word.as_str() {
-            "--seed" => options.seed = number,
-            "--calls" => options.calls = number,
+            "--seed" => options.seed = number?,
+            "--calls" => options.calls = number?,
+            "--sessions" => options.sessions = Some(value),
             _ => return Err(format!("{word} is no option")),
         }
     }
@@ -96,7 +134,7 @@ fn run_hub(seed: u64, totals: &mut Totals) -> Result<(), Fault> {
     match run_steps(&list, random, totals, &mut steps) {
         Ok(()) => Ok(()),
         Err(what) => Err(Fault {
-            seed,
+            origin: format!("seed {seed}"),
             list,
             steps,
             what,
@@ -115,9 +153,7 @@ fn run_steps(list: &List, mut random: Random, totals: &mut Totals, steps: &mut V
         let step = calls.step(&pair.ours, &pair.hub);
         steps.push(step.clone());
         let answer = pair.step(&step, &mut totals.counts)?;
-        totals.calls += 1;
-        let answers = totals.answers.entry(word(&step.call)).or_default();
-        *answers.entry(sort(&step.call, &answer)).or_default() += 1;
+        totals.count(&step.call, &answer);
     }
     Ok(())
 }
@@ -174,8 +210,16 @@ fn replay(list: &List, steps: &[Step]) -> Option<(usize, String)> {
 
 /// Prints a fault as a session.
 fn report(fault: &Fault) {
-    println!("# a difference of no known kind, from seed {}\nnew", fault.seed);
-    for entry in &fault.list.entries {
+    println!("# a difference of no known kind, from {}", fault.origin);
+    session_lines(&fault.list).iter().for_each(|line| println!("{line}"));
+    println!("open");
+    fault.steps.iter().for_each(|step| println!("{step}"));
+    println!("# {}", fault.what.replace('\n', "\n# "));
+}
+
+/// The lines of a session that give a list and a store.
+fn session_lines(list: &List) -> Vec<String> {
+    let line = |entry: &Entry| {
         let kind = match (entry.shared, entry.variable) {
             (true, true) => "sv",
             (true, false) => "sf",
@@ -185,14 +229,16 @@ fn report(fault: &Fault) {
         let (uuid, handle) = (Hex(&entry.uuid), entry.handle);
         let (read, write, capacity) = (entry.read, entry.write, entry.capacity);
         let (start, len) = (entry.start, entry.len);
-        println!("attr {handle:X} {uuid} {read:X} {write:X} {kind} {capacity:X} {start:X} {len:X}");
-    }
-    println!("store {}\nopen", Hex(&fault.list.store));
-    fault.steps.iter().for_each(|step| println!("{step}"));
-    println!("# {}", fault.what.replace('\n', "\n# "));
+        format!("attr {handle:X} {uuid} {read:X} {write:X} {kind} {capacity:X} {start:X} {len:X}")
+    };
+    let mut lines = vec!["new".to_string()];
+    lines.extend(list.entries.iter().map(line));
+    lines.push(format!("store {}", Hex(&list.store)));
+    lines
 }
 
-fn print_totals(options: &Options, totals: &Totals) {
+/// Prints what was seen. It fails where a corner of the state was met by no call.
+fn print_totals(options: &Options, totals: &Totals) -> ExitCode {
     for (word, answers) in &totals.answers {
         let count: u64 = answers.values().sum();
         let sorts: Vec<String> = answers.iter().map(|(sort, count)| format!("{sort} {count}")).collect();
@@ -200,11 +246,23 @@ fn print_totals(options: &Options, totals: &Totals) {
     }
     println!("differences, all of kinds that docs/DIFFERENCES.md lists:");
     for kind in Kind::ALL {
-        println!("{:>10} {kind}", totals.counts.0.get(&kind).unwrap_or(&0));
+        println!("{:>10} {kind}", totals.counts.kinds.get(&kind).unwrap_or(&0));
     }
-    let differences: u64 = totals.counts.0.values().sum();
+    println!("differences of the crate's own list, all of kinds that docs/DIFFERENCES.md lists:");
+    for kind in own_list::Kind::ALL {
+        println!("{:>10} {}", totals.own_list.get(&kind).unwrap_or(&0), kind.sentence());
+    }
+    println!("corners of the state, and the calls that met them:");
+    let corners = totals.counts.corners.counts();
+    corners.iter().for_each(|(name, count)| println!("{count:>10} {name}"));
+    if let Some((name, _)) = corners.iter().find(|(_, count)| *count == 0) {
+        println!("compare: failed, no call met the corner \"{name}\"");
+        return ExitCode::FAILURE;
+    }
+    let differences: u64 = totals.counts.kinds.values().sum();
     println!(
         "compare: ok, {} calls, {} hubs, seed {}, {differences} listed differences, no other",
         totals.calls, totals.hubs, options.seed
     );
+    ExitCode::SUCCESS
 }

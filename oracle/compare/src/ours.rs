@@ -1,16 +1,19 @@
 //! A hub run by the proved library, in memory that can be looked at.
 
+use crate::boundary::{self, Need, Spelling};
 use original::connection::SecurityLevel;
 use original::hub::{FILL, RECORDS};
 use original::{Answer, Call, Entry, Identity, Request};
 use ropethatch::raw::{self, Prepared, Slot, State, Table};
 use ropethatch::{Bond, CallError, Link, Refusal};
 
+/// The eight slots and tables stand in vectors, so that another number of them can be lent too.
+#[derive(Clone, PartialEq)]
 pub struct Ours {
-    pub slots: [Slot; 8],
+    pub slots: Vec<Slot>,
     pub list: Vec<raw::Record>,
     pub store: Vec<u8>,
-    pub tables: [Table; 8],
+    pub tables: Vec<Table>,
     pub records: Vec<(Prepared, [u8; 512])>,
 }
 
@@ -25,10 +28,10 @@ impl Ours {
             connected: FILL,
         };
         let mut ours = Ours {
-            slots: [foreign; 8],
+            slots: vec![foreign; 8],
             list: list.iter().map(record).collect(),
             store: store.to_vec(),
-            tables: [[FILL; 640]; 8],
+            tables: vec![[FILL; 640]; 8],
             records: vec![(Prepared::default(), [0; 512]); RECORDS],
         };
         match ours.state().open() {
@@ -51,7 +54,10 @@ impl Ours {
     }
 
     /// Makes a call. Also tells whether the response buffer past the answer is as it was lent.
-    pub fn call(&mut self, call: &Call) -> (Answer, bool) {
+    pub fn call(&mut self, call: &Call, spelling: Option<&Spelling>) -> (Answer, bool) {
+        if let Some(answer) = spelling.and_then(|spelling| self.spelled(call, spelling)) {
+            return answer;
+        }
         let who = identity(call.who());
         let answer = match call {
             Call::Connect(_) => done(self.state().connect(who)),
@@ -76,6 +82,42 @@ impl Ours {
             Call::SetTable { saved, .. } => done(self.state().restore(who, saved)),
         };
         (answer, true)
+    }
+
+    /// Makes a call by numbers, where there is a choice of them.
+    fn spelled(&mut self, call: &Call, spelling: &Spelling) -> Option<(Answer, bool)> {
+        let who = identity(call.who());
+        let answer = match call {
+            Call::Disconnect { bonded, .. } => boundary::disconnect(self.state(), who, spelling, *bonded),
+            Call::CanRead { link, handle, .. } => {
+                boundary::may(self.state(), who, Need::Read, spelling.level(number(*link)), *handle)
+            }
+            Call::CanWrite { link, handle, .. } => {
+                boundary::may(self.state(), who, Need::Write, spelling.level(number(*link)), *handle)
+            }
+            Call::Process {
+                link,
+                record,
+                room,
+                request,
+                ..
+            } => {
+                let mut out = vec![FILL; *room];
+                let (mut prepared, mut bytes) = self.records[*record];
+                let lent = boundary::Lent {
+                    level: number(*link),
+                    prepared: &mut prepared,
+                    bytes: &mut bytes,
+                    out: &mut out,
+                };
+                let answer = boundary::process(self.state(), who, lent, request, spelling);
+                self.records[*record] = (prepared, bytes);
+                let clean = is_clean(&answer, &out);
+                return Some((answer, clean));
+            }
+            _ => return None,
+        };
+        Some((answer, true))
     }
 
     fn process(&mut self, who: raw::Identity, link: Link, i: usize, room: usize, request: &Request) -> (Answer, bool) {
@@ -156,6 +198,16 @@ fn level(link: Option<SecurityLevel>) -> Link {
         Some(SecurityLevel::NoEncryption) => Link::Plain,
         Some(SecurityLevel::Encrypted) => Link::Encrypted,
         Some(SecurityLevel::EncryptedAuthenticated) => Link::Authenticated,
+    }
+}
+
+/// A level's number at the boundary.
+fn number(link: Option<SecurityLevel>) -> u8 {
+    match link {
+        None => 0,
+        Some(SecurityLevel::NoEncryption) => 1,
+        Some(SecurityLevel::Encrypted) => 2,
+        Some(SecurityLevel::EncryptedAuthenticated) => 3,
     }
 }
 

@@ -1,5 +1,7 @@
 //! One hub on both sides, driven by the same calls.
 
+use crate::boundary::Spelling;
+use crate::corners::Corners;
 use crate::differences::{self, Kind};
 use crate::lists::List;
 use crate::ours::Ours;
@@ -13,6 +15,18 @@ use std::fmt;
 pub struct Step {
     pub poke: Option<Poke>,
     pub call: Call,
+    /// `None`: the library is called through its Rust crate.
+    pub spelling: Option<Spelling>,
+}
+
+impl From<Call> for Step {
+    fn from(call: Call) -> Step {
+        Step {
+            poke: None,
+            call,
+            spelling: None,
+        }
+    }
 }
 
 impl fmt::Display for Step {
@@ -20,18 +34,24 @@ impl fmt::Display for Step {
         if let Some(poke) = &self.poke {
             writeln!(f, "{poke}")?;
         }
+        if let Some(spelling) = &self.spelling {
+            writeln!(f, "# where the call leaves a choice: {spelling:02X?}")?;
+        }
         self.call.fmt(f)
     }
 }
 
-/// How often each kind of difference was seen.
+/// How often each kind of difference was seen, and each corner of the state met by a call.
 #[derive(Default)]
-pub struct Counts(pub BTreeMap<Kind, u64>);
+pub struct Counts {
+    pub kinds: BTreeMap<Kind, u64>,
+    pub corners: Corners,
+}
 
 impl Counts {
-    fn add(&mut self, kinds: impl IntoIterator<Item = Kind>) {
+    pub fn add(&mut self, kinds: impl IntoIterator<Item = Kind>) {
         for kind in kinds {
-            *self.0.entry(kind).or_default() += 1;
+            *self.kinds.entry(kind).or_default() += 1;
         }
     }
 }
@@ -61,17 +81,27 @@ impl Pair {
 
     /// Takes a step on both sides and compares answers and states. Gives the library's answer.
     pub fn step(&mut self, step: &Step, counts: &mut Counts) -> Result<Answer, String> {
-        let undo = step.poke.as_ref().map(|poke| poke.apply(&mut self.ours, &mut self.hub));
-        let valid = undo.is_none() || self.hub.is_valid_for(&step.call);
-        let answer = self.call(&step.call, valid, counts)?;
-        if let (Some(undo), false) = (undo, valid) {
-            undo.apply(&mut self.ours, &mut self.hub);
-        }
-        Ok(answer)
+        self.step_back(step, counts).map(|(answer, _)| answer)
     }
 
-    fn call(&mut self, call: &Call, valid: bool, counts: &mut Counts) -> Result<Answer, String> {
-        let (ours, clean) = self.ours.call(call);
+    /// Takes a step, and also gives the change by which a state that was not valid has been left again.
+    pub fn step_back(&mut self, step: &Step, counts: &mut Counts) -> Result<(Answer, Option<Poke>), String> {
+        let undo = step.poke.as_ref().map(|poke| poke.apply(&mut self.ours, &mut self.hub));
+        let valid = undo.is_none() || self.hub.is_valid_for(&step.call);
+        if undo.is_some() {
+            counts.corners.see(&self.hub, &step.call, valid);
+        }
+        let answer = self.call(step, valid, counts)?;
+        let undo = undo.filter(|_| !valid);
+        if let Some(undo) = &undo {
+            undo.apply(&mut self.ours, &mut self.hub);
+        }
+        Ok((answer, undo))
+    }
+
+    fn call(&mut self, step: &Step, valid: bool, counts: &mut Counts) -> Result<Answer, String> {
+        let call = &step.call;
+        let (ours, clean) = self.ours.call(call, step.spelling.as_ref());
         if !clean {
             return Err(format!("ours wrote past its answer {ours:02X?}"));
         }
@@ -87,6 +117,14 @@ impl Pair {
     }
 
     fn compare(&mut self, call: &Call, ours: &Answer, counts: &mut Counts) -> Result<(), String> {
+        if let Some((kind, expected)) = differences::no_such_uuid(call, &self.hub) {
+            counts.add([kind]);
+            return if *ours == expected {
+                Ok(())
+            } else {
+                Err(format!("ours {ours:02X?}, of a UUID that no entry has {expected:02X?}"))
+            };
+        }
         let (theirs, clean) = self.hub.call(call);
         if *ours != theirs {
             let kinds = differences::explain(call, &self.hub, ours, &theirs);

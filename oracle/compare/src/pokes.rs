@@ -17,21 +17,14 @@ pub enum Poke {
     Length(u16, u16),
     Store(usize, Vec<u8>),
     Record(usize, Box<PrepareWriteState>),
+    Several(Vec<Poke>),
 }
 
 impl Poke {
     /// Changes both sides, and gives the poke that undoes it.
     pub fn apply(&self, ours: &mut Ours, hub: &mut Hub) -> Poke {
         match self {
-            Poke::Slot(i, slot) => {
-                let before = hub.slot(*i);
-                ours.slots[*i].id = ours::identity(slot.id);
-                // any byte but 0 means connected
-                ours.slots[*i].connected = if slot.connected { 1 + 36 * *i as u8 } else { 0 };
-                ours.tables[*i] = slot.table;
-                hub.poke_slot(*i, slot);
-                Poke::Slot(*i, Box::new(before))
-            }
+            Poke::Slot(i, slot) => Poke::Slot(*i, Box::new(put_slot(*i, slot, ours, hub))),
             Poke::Length(handle, len) => {
                 let place = hub
                     .list()
@@ -62,8 +55,24 @@ impl Poke {
                 hub.poke_record(*i, (**record).clone());
                 Poke::Record(*i, Box::new(before))
             }
+            Poke::Several(pokes) => {
+                let mut undos: Vec<Poke> = pokes.iter().map(|poke| poke.apply(ours, hub)).collect();
+                undos.reverse();
+                Poke::Several(undos)
+            }
         }
     }
+}
+
+/// Puts a slot in place on both sides, and gives the one before.
+fn put_slot(i: usize, slot: &Slot, ours: &mut Ours, hub: &Hub) -> Slot {
+    let before = hub.slot(i);
+    ours.slots[i].id = ours::identity(slot.id);
+    // any byte but 0 means connected
+    ours.slots[i].connected = if slot.connected { 1 + 36 * i as u8 } else { 0 };
+    ours.tables[i] = slot.table;
+    hub.poke_slot(i, slot);
+    before
 }
 
 /// Draws a poke before a call; `record` is the prepared record that the call is lent. About half leave a valid state.
@@ -90,7 +99,10 @@ pub fn poke(random: &mut Random, hub: &Hub, tablets: &[Identity], record: Option
 }
 
 fn any_record(random: &mut Random, hub: &Hub) -> PrepareWriteState {
-    let listed = hub.list().first().map_or(1, |entry| entry.handle);
+    let list = hub.list();
+    let listed = list
+        .get(random.below(list.len().max(1)))
+        .map_or(1, |entry| entry.handle);
     let mut buf = [0; 512];
     buf.copy_from_slice(&random.bytes(512));
     PrepareWriteState {
@@ -141,6 +153,10 @@ impl fmt::Display for Poke {
                     record.offset,
                     Hex(bytes)
                 )
+            }
+            Poke::Several(pokes) => {
+                let lines: Vec<String> = pokes.iter().map(Poke::to_string).collect();
+                f.write_str(&lines.join("\n"))
             }
         }
     }

@@ -71,6 +71,17 @@ impl Attribute<'_> {
     }
 }
 
+/// An entry of the list as an attribute.
+pub(crate) fn listed<'d>(handle: u16, needs: (u8, u8), uuid: Uuid, data: AttributeData<'d>) -> Attribute<'d> {
+    let (read, write) = needs;
+    Attribute {
+        handle,
+        uuid,
+        permissions: AttPermissions { read, write },
+        data,
+    }
+}
+
 /// Attributes by ascending handles.
 pub struct AttributeTable<'d, M: RawMutex, const MAX: usize> {
     inner: Mutex<M, RefCell<Vec<Attribute<'d>>>>,

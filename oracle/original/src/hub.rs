@@ -1,13 +1,13 @@
 //! A hub run by the original.
 
 use crate::att::{AttCfm, AttClient, AttCmd, AttReq};
-use crate::attribute::{AttPermissions, Attribute, AttributeData, AttributeTable, Uuid, READ_LIMIT};
+use crate::attribute::{listed, Attribute, AttributeData, AttributeTable, Uuid};
 use crate::attribute_server::sealed::DynamicAttributeServer as _;
 use crate::attribute_server::{AttributeServer, ClientAttTableView};
 use crate::connection::{Connection, PrepareWriteState, SecurityLevel};
 use crate::slots::{self, Slot, Table, SLOTS};
 use crate::table::whole;
-use crate::{list, Answer, Call, Entry, Error, Identity, NoPool, Request};
+use crate::{Answer, Call, Entry, Error, Identity, NoPool, Request};
 use embassy_sync::blocking_mutex::raw::NoopRawMutex;
 use std::cell::RefCell;
 use std::marker::PhantomData;
@@ -16,7 +16,7 @@ use std::sync::Once;
 
 pub(crate) type Server = AttributeServer<'static, NoopRawMutex, NoPool, 64, SLOTS>;
 pub(crate) type Tablet<'a> = Connection<'a, NoPool>;
-type Record = RefCell<PrepareWriteState>;
+pub(crate) type Record = RefCell<PrepareWriteState>;
 
 /// How many prepared records a hub has, one for each link.
 pub const RECORDS: usize = 16;
@@ -26,22 +26,13 @@ pub const FILL: u8 = 0xEE;
 
 /// The original with its list, its store and its links.
 pub struct Hub {
-    server: Server,
+    pub(crate) server: Server,
     list: Vec<Entry>,
     /// The store as it was given; what is not part of a value never changes.
     store: Vec<u8>,
     records: Vec<Record>,
     /// A clear table of the list.
     blank: Table,
-}
-
-/// Changes to the stand-ins that make the original answer as the requirements do, where it is known not to.
-#[derive(Clone, Copy, Debug, Default, PartialEq, Eq)]
-pub struct Repairs {
-    /// UUIDs of the list are compared in their shortest form. The request's own is the caller's to shorten.
-    pub widen: bool,
-    /// The asking tablet's values are read as shared ones are: cut to the room, and to the row's longest value.
-    pub cut: bool,
 }
 
 impl Hub {
@@ -115,61 +106,6 @@ impl Hub {
                 }
                 Err(error) => failed(error),
             },
-        }
-    }
-
-    /// Makes a call that changes nothing, with repairs for as long as it takes.
-    pub fn repaired(&self, repairs: Repairs, call: &Call) -> Answer {
-        let uuids = repairs.widen.then(|| self.shorten_uuids());
-        let clients = repairs.cut.then(|| self.share_values_of(call.who()));
-        READ_LIMIT.set(if repairs.cut { row_limit(call) } else { usize::MAX });
-        let (answer, _) = self.call(call);
-        READ_LIMIT.set(usize::MAX);
-        if let Some(clients) = clients {
-            self.unshare(clients);
-        }
-        if let Some(uuids) = uuids {
-            self.server
-                .table()
-                .with_all_mut(|all| all.iter_mut().zip(uuids).for_each(|(att, uuid)| att.uuid = uuid));
-        }
-        answer
-    }
-
-    fn shorten_uuids(&self) -> Vec<Uuid> {
-        self.server.table().with_all_mut(|all| {
-            let shorten = |att: &mut Attribute<'_>| {
-                let short = uuid(list::shortest(att.uuid.as_raw()));
-                std::mem::replace(&mut att.uuid, short)
-            };
-            all.iter_mut().map(shorten).collect()
-        })
-    }
-
-    /// Puts a copy of the tablet's values in the place of each client value, and gives what stood there.
-    fn share_values_of(&self, who: Identity) -> Vec<(u16, AttributeData<'static>)> {
-        let record = Record::default();
-        let Some(table) = self.server.get_client_att_table(&connection(who, None, true, &record)) else {
-            return Vec::new();
-        };
-        self.server.table().with_all_mut(|all| {
-            let clients = all.iter_mut().filter(|att| att.data.value().is_none());
-            let share = |att: &mut Attribute<'static>| {
-                let value = table.get(att.handle).expect("a client value stands in the table");
-                let copy = shared(value, att.data.is_variable_len(), value.len() as u16);
-                (att.handle, std::mem::replace(&mut att.data, copy))
-            };
-            clients.map(share).collect()
-        })
-    }
-
-    fn unshare(&self, clients: Vec<(u16, AttributeData<'static>)>) {
-        for (handle, data) in clients {
-            let copy = self
-                .server
-                .table()
-                .with_attribute_mut(handle, |att| std::mem::replace(&mut att.data, data));
-            free(copy.expect("a listed handle"));
         }
     }
 
@@ -289,19 +225,11 @@ fn attribute(entry: &Entry, store: &[u8]) -> Attribute<'static> {
             capacity: entry.capacity,
         }
     };
-    Attribute {
-        handle: entry.handle,
-        uuid: uuid(&entry.uuid),
-        permissions: AttPermissions {
-            read: entry.read,
-            write: entry.write,
-        },
-        data,
-    }
+    listed(entry.handle, (entry.read, entry.write), uuid(&entry.uuid), data)
 }
 
 /// A value on the heap. `free` gives it back.
-fn shared(value: &[u8], variable_len: bool, len: u16) -> AttributeData<'static> {
+pub(crate) fn shared(value: &[u8], variable_len: bool, len: u16) -> AttributeData<'static> {
     AttributeData::Data {
         variable_len,
         len,
@@ -309,7 +237,7 @@ fn shared(value: &[u8], variable_len: bool, len: u16) -> AttributeData<'static> 
     }
 }
 
-fn free(data: AttributeData<'static>) {
+pub(crate) fn free(data: AttributeData<'static>) {
     if let AttributeData::Data { value, .. } = data {
         // SAFETY: `shared` alone makes such data, from a box that it leaks; `data` was the only one to hold it.
         drop(unsafe { Box::from_raw(value) });
@@ -317,7 +245,7 @@ fn free(data: AttributeData<'static>) {
 }
 
 /// Of 2 or 16 bytes.
-fn uuid(bytes: &[u8]) -> Uuid {
+pub(crate) fn uuid(bytes: &[u8]) -> Uuid {
     Uuid::try_from(bytes).expect("a UUID of 2 or 16 bytes")
 }
 

@@ -21,17 +21,22 @@ mod found {
 }
 pub use found::source::{att, attribute_server, codec, config, cursor, types};
 
+#[cfg_attr(feature = "own-list", path = "own_list.rs")]
 pub mod attribute;
 pub mod calls;
 pub mod connection;
 pub mod hub;
 pub mod list;
+#[cfg(not(feature = "own-list"))]
+mod repairs;
 pub mod slots;
 mod standins;
 pub mod table;
 mod valid;
 
 pub use calls::{Answer, Call, Request};
-pub use hub::{Hub, Repairs};
+pub use hub::Hub;
 pub use list::Entry;
+#[cfg(not(feature = "own-list"))]
+pub use repairs::Repairs;
 pub use standins::{Error, Identity, NoPool, PacketPool};

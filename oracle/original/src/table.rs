@@ -66,35 +66,39 @@ fn change(bytes: &mut Table, f: impl FnOnce(&mut ClientAttTable) -> Answer) -> A
 }
 
 /// A builder's bytes: a table whose values are zero, and zeros after.
-fn is_builder(bytes: &Table) -> bool {
+pub fn is_builder(bytes: &Table) -> bool {
     let count = usize::from(u16::from_le_bytes([bytes[0], bytes[1]]));
     is_table(bytes) && bytes[4 + 4 * count..].iter().all(|byte| *byte == 0)
 }
 
+/// A push under the requirements' numbers.
 pub fn push(bytes: &mut Table, key: u16, len: u16, variable: bool) -> Answer {
     if !is_builder(bytes) {
         return Answer::Refused(4);
     }
+    match try_push(bytes, key, len, variable) {
+        (Answer::Done, Ok(built)) => {
+            *bytes = built;
+            Answer::Done
+        }
+        (Answer::Stopped(why), _) if !why.contains("overflow") => Answer::Refused(5),
+        _ => Answer::Refused(6),
+    }
+}
+
+/// What the original does with a push onto a builder's bytes, and with `build` after it: either may stop.
+pub fn try_push(bytes: &Table, key: u16, len: u16, variable: bool) -> (Answer, Result<Table, Answer>) {
     let mut builder = builder(bytes);
     let pushed = caught(|| {
         builder.push(key, len, variable);
         Answer::Done
     });
-    if let Answer::Stopped(why) = pushed {
-        return Answer::Refused(if why.contains("overflow") { 6 } else { 5 });
-    }
-    let mut built = *bytes;
-    let answer = caught(|| {
-        built = whole(&builder.build());
+    let mut table = *bytes;
+    let built = caught(|| {
+        table = whole(&builder.build());
         Answer::Done
     });
-    match answer {
-        Answer::Done => {
-            *bytes = built;
-            Answer::Done
-        }
-        _ => Answer::Refused(6),
-    }
+    (pushed, if built == Answer::Done { Ok(table) } else { Err(built) })
 }
 
 pub fn build(bytes: &Table) -> Result<Table, Answer> {

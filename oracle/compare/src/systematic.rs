@@ -1,0 +1,33 @@
+//! The part that is enumerated, not drawn: every corner of the state under every call, every number at the boundary, every
+//! short order of joining and leaving, every offset and length around each limit.
+
+use crate::lists::List;
+use crate::pair::{Pair, Step};
+use crate::{lent, limits, numbers, orders, states, Fault, Totals};
+
+pub fn run(totals: &mut Totals) -> Result<(), Fault> {
+    states::run(totals)?;
+    lent::run(totals)?;
+    numbers::run(totals)?;
+    orders::run(totals)?;
+    limits::run(totals)
+}
+
+/// Takes steps on a fresh hub.
+pub fn case(origin: &str, list: &List, steps: &[Step], totals: &mut Totals) -> Result<(), Fault> {
+    let fault = |what, count: usize| Fault {
+        origin: origin.to_string(),
+        list: list.clone(),
+        steps: steps[..count].to_vec(),
+        what,
+    };
+    let pair = Pair::open(list, &mut totals.counts).map_err(|what| fault(what, 0))?;
+    let mut pair = pair.ok_or_else(|| fault("the list is refused".to_string(), 0))?;
+    totals.hubs += 1;
+    for (i, step) in steps.iter().enumerate() {
+        let answer = pair.step(step, &mut totals.counts);
+        let answer = answer.map_err(|what| fault(what, i + 1))?;
+        totals.count(&step.call, &answer);
+    }
+    Ok(())
+}
