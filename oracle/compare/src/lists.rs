@@ -206,10 +206,17 @@ fn spoil(random: &mut Random, list: &mut List) {
         return;
     }
     let last = list.entries[count - 1].clone();
-    let entry = &mut list.entries[random.below(count)];
+    // In the last entry half the time: there, nothing that follows breaks a rule too.
+    let place = if random.once_in(2) {
+        count - 1
+    } else {
+        random.below(count)
+    };
+    let before = place.checked_sub(1).map_or(0, |i| list.entries[i].handle);
+    let entry = &mut list.entries[place];
     match random.below(10) {
-        0 => entry.handle = random.pick(&[0, 0x7FFF, 0x8000, 0xFFFF]),
-        1 => entry.handle = last.handle,
+        0 => entry.handle = random.pick(&[0, 0x8000, 0x8000, 0xFFFF]),
+        1 => entry.handle = before,
         2 => entry.capacity = random.pick(&[512, 513, 0xFFFF]),
         3 => entry.len = entry.capacity.wrapping_add(random.pick(&[1, 0xFFFF])),
         4 => entry.start = entry.start.wrapping_add(random.pick(&[1, 0xFFFF, 4096])),

@@ -2,14 +2,18 @@
 //!
 //!     compare [--seed N] [--calls N]
 //!     compare [--seed N] [--calls N] --sessions PROGRAM
+//!     compare [--seed N] [--calls N] --transcript DIR
+//!     compare [--seed N] --fixed DIR
 //!
 //! After each call the answers and the whole states are compared. A difference must be of a kind that `differences.rs`
 //! knows; any other is printed, as the shortest session found that shows it, and the program fails. With `--sessions` it is
-//! PROGRAM, the project's `session`, that answers.
+//! PROGRAM, the project's `session`, that answers. `--transcript` writes such sessions, with what is expected, to a folder,
+//! `--fixed` a short one that shows every sort of answer.
 
 mod boundary;
 mod corners;
 mod differences;
+mod fixed;
 mod generate;
 mod lent;
 mod limits;
@@ -23,11 +27,14 @@ mod pokes;
 mod random;
 mod rows;
 mod saved;
+mod script;
 mod sessions;
+mod shorten;
 mod states;
 mod systematic;
 mod table_calls;
 mod tables;
+mod transcript;
 
 use differences::Kind;
 use generate::Calls;
@@ -37,6 +44,7 @@ use original::{Answer, Call, Entry};
 use pair::{Counts, Pair, Step};
 use random::Random;
 use std::collections::BTreeMap;
+use std::path::PathBuf;
 use std::process::ExitCode;
 
 struct Options {
@@ -44,6 +52,10 @@ struct Options {
     calls: u64,
     /// The program that runs sessions.
     sessions: Option<String>,
+    /// Where random sessions are written to.
+    transcript: Option<PathBuf>,
+    /// Where the session of every sort of answer is written to.
+    fixed: Option<PathBuf>,
 }
 
 /// A difference of no known kind, and the calls that lead to it.
@@ -76,12 +88,18 @@ fn main() -> ExitCode {
     let options = match options() {
         Ok(options) => options,
         Err(why) => {
-            eprintln!("compare: {why}\nusage: compare [--seed N] [--calls N] [--sessions PROGRAM]");
+            eprintln!("compare: {why}\nusage: compare [--seed N] [--calls N] [--sessions PROGRAM | --transcript DIR | --fixed DIR]");
             return ExitCode::from(2);
         }
     };
     if let Some(program) = &options.sessions {
         return sessions::run(&options, program);
+    }
+    if let Some(folder) = &options.transcript {
+        return ended(transcript::run(&options, folder));
+    }
+    if let Some(folder) = &options.fixed {
+        return ended(fixed::run(&options, folder));
     }
     let mut totals = Totals::default();
     if let Err(fault) = run(&options, &mut totals) {
@@ -90,6 +108,20 @@ fn main() -> ExitCode {
         return ExitCode::FAILURE;
     }
     print_totals(&options, &totals)
+}
+
+/// Prints how the writing of a session ended.
+fn ended(result: Result<String, String>) -> ExitCode {
+    match result {
+        Ok(what) => {
+            println!("{what}");
+            ExitCode::SUCCESS
+        }
+        Err(why) => {
+            println!("compare: {why}");
+            ExitCode::FAILURE
+        }
+    }
 }
 
 /// The enumerated part, then random hubs until there are as many calls as asked for.
@@ -110,6 +142,8 @@ fn options() -> Result<Options, String> {
         seed: 1,
         calls: 200_000,
         sessions: None,
+        transcript: None,
+        fixed: None,
     };
     let mut words = std::env::args().skip(1);
     while let Some(word) = words.next() {
@@ -119,6 +153,8 @@ fn options() -> Result<Options, String> {
             "--seed" => options.seed = number?,
             "--calls" => options.calls = number?,
             "--sessions" => options.sessions = Some(value),
+            "--transcript" => options.transcript = Some(value.into()),
+            "--fixed" => options.fixed = Some(value.into()),
             _ => return Err(format!("{word} is no option")),
         }
     }

@@ -3,6 +3,7 @@
 
 use crate::ours::{self, Ours};
 use crate::random::Random;
+use crate::tables::trimmed;
 use original::calls::Hex;
 use original::connection::PrepareWriteState;
 use original::slots::Slot;
@@ -140,7 +141,7 @@ impl fmt::Display for Poke {
         match self {
             Poke::Slot(i, slot) => {
                 writeln!(f, "pokeslot {i:X} {} {}", slot.id, u8::from(slot.connected))?;
-                write!(f, "poketab {i:X} {}", Hex(&slot.table))
+                write!(f, "poketab {i:X} {}", Hex(&trimmed(&slot.table)))
             }
             Poke::Length(handle, len) => write!(f, "pokelen {handle:X} {len:X}"),
             Poke::Store(at, bytes) => write!(f, "pokestore {at:X} {}", Hex(bytes)),

@@ -1,172 +1,13 @@
 //! The project's program `session` beside the library and the original: random sessions are written to it, and every line that
-//! it answers is held to what is expected. For a call on a hub that is what the library and the original answered side by
-//! side; for a call on a builder or a table alone, which the library does not export, it is what the original's own types
-//! answer, or what a listed difference has instead.
+//! it answers is held to what is expected.
 
-use crate::generate::Calls;
-use crate::lists::{self, List};
-use crate::pair::{Counts, Pair, Step};
-use crate::pokes::Poke;
-use crate::random::Random;
-use crate::table_calls;
-use crate::tables::{trimmed, Kind, TableCall, Tables};
-use crate::{session_lines, Options};
-use original::calls::Hex;
-use original::{list, table, Answer, Call};
-use std::collections::BTreeMap;
-use std::fmt::Write as _;
+use crate::lists;
+use crate::script::{self, Lines, Model, Script, Totals, Turn};
+use crate::tables::Kind;
+use crate::Options;
 use std::io::{self, Write as _};
 use std::process::{Command, ExitCode, Stdio};
 use std::thread;
-
-/// One turn of a session.
-#[derive(Clone)]
-enum Turn {
-    Hub(Box<Step>),
-    State,
-    Tail,
-    Table(TableCall),
-}
-
-/// A session: one hub, and turns on it and on a builder and a table.
-struct Script {
-    seed: u64,
-    list: List,
-    turns: Vec<Turn>,
-}
-
-/// Lines of a session and the lines that are answered.
-#[derive(Default)]
-struct Lines {
-    asked: Vec<String>,
-    answers: Vec<String>,
-}
-
-impl Lines {
-    fn add(&mut self, line: String, answer: impl Into<String>) {
-        self.asked.push(line);
-        self.answers.push(answer.into());
-    }
-}
-
-#[derive(Default)]
-struct Totals {
-    sessions: u64,
-    calls: u64,
-    answers: BTreeMap<String, BTreeMap<String, u64>>,
-    kinds: BTreeMap<Kind, u64>,
-    counts: Counts,
-}
-
-/// What is expected, turn by turn.
-struct Model {
-    /// `None`: the hub's list was refused, and calls on it are answered `closed`.
-    pair: Option<Pair>,
-    tables: Tables,
-}
-
-impl Model {
-    fn open(list: &List, totals: &mut Totals) -> Result<(Model, Lines), String> {
-        let pair = Pair::open(list, &mut totals.counts)?;
-        let answer = match &pair {
-            Some(_) => "ok",
-            None if list::is_refused(&list.entries, &list.store) => "refused 1",
-            None => "refused 6",
-        };
-        let mut lines = Lines::default();
-        for line in session_lines(list) {
-            lines.add(line, "ok");
-        }
-        lines.add("open".to_string(), answer);
-        let tables = Tables::new();
-        Ok((Model { pair, tables }, lines))
-    }
-
-    fn take(&mut self, turn: &Turn, totals: &mut Totals) -> Result<Lines, String> {
-        let mut lines = Lines::default();
-        match (turn, &mut self.pair) {
-            (Turn::Table(call), _) => {
-                let (answer, kind) = self.tables.call(call)?;
-                kind.into_iter()
-                    .for_each(|kind| *totals.kinds.entry(kind).or_default() += 1);
-                lines.add(call.to_string(), told_of_table(call, &answer));
-            }
-            (Turn::Hub(step), None) => lines.add(step.call.to_string(), "closed"),
-            (Turn::State, None) => lines.add("state".to_string(), "closed"),
-            (Turn::Tail, None) => lines.add("tail".to_string(), "closed"),
-            (Turn::Tail, Some(_)) => lines.add("tail".to_string(), "clean"),
-            (Turn::State, Some(pair)) => {
-                lines.asked.push("state".to_string());
-                lines.answers.extend(state(pair).lines().map(str::to_string));
-            }
-            (Turn::Hub(step), Some(pair)) => {
-                let (answer, undo) = pair.step_back(step, &mut totals.counts)?;
-                poke_lines(step.poke.as_ref(), &mut lines);
-                lines.add(step.call.to_string(), told_of_hub(&step.call, &answer));
-                poke_lines(undo.as_ref(), &mut lines);
-            }
-        }
-        Ok(lines)
-    }
-}
-
-fn poke_lines(poke: Option<&Poke>, lines: &mut Lines) {
-    let text = poke.map_or_else(String::new, Poke::to_string);
-    text.lines().for_each(|line| lines.add(line.to_string(), "ok"));
-}
-
-fn told_of_hub(call: &Call, answer: &Answer) -> String {
-    match (call, answer) {
-        (Call::ShouldNotify { .. } | Call::ShouldIndicate { .. }, Answer::Done) => "yes".to_string(),
-        (Call::ShouldNotify { .. } | Call::ShouldIndicate { .. }, Answer::Nothing) => "no".to_string(),
-        (Call::GetTable(_), Answer::Value(bytes)) => told("table", &table::read(bytes)),
-        (Call::Process { .. }, answer) => told("rsp", answer),
-        (_, answer) => told("val", answer),
-    }
-}
-
-fn told_of_table(call: &TableCall, answer: &Answer) -> String {
-    let name = match call {
-        TableCall::BuilderMemory | TableCall::Memory => "mem",
-        TableCall::Raw | TableCall::Read(_) => "table",
-        _ => "val",
-    };
-    told(name, answer)
-}
-
-/// An answer as a session shows it; `name` stands before bytes.
-fn told(name: &str, answer: &Answer) -> String {
-    match answer {
-        Answer::Done => "ok".to_string(),
-        Answer::Nothing => "none".to_string(),
-        Answer::Value(bytes) => format!("{name} {}", Hex(bytes)),
-        Answer::Att(code) => format!("att {code:02X}"),
-        Answer::Refused(number) => format!("refused {number}"),
-        other => format!("{other:?}"),
-    }
-}
-
-/// The library's state, as a session shows it.
-fn state(pair: &Pair) -> String {
-    let (ours, mut text) = (&pair.ours, String::new());
-    for (record, entry) in ours.list.iter().zip(pair.hub.list()) {
-        let len = format!("{:X}", u16::from_le_bytes([record[6], record[7]]));
-        let len = if entry.shared { len } else { "client".to_string() };
-        let _ = writeln!(text, "attr {:X} {len}", entry.handle);
-    }
-    let _ = writeln!(text, "store {}", Hex(&ours.store));
-    for (i, (slot, table)) in ours.slots.iter().zip(&ours.tables).enumerate() {
-        let (id, connected) = (pair.hub.slot(i).id, u8::from(slot.connected != 0));
-        let _ = writeln!(text, "slot {i:X} {id} {connected} {}", Hex(&trimmed(table)));
-    }
-    for (i, (record, bytes)) in ours.records.iter().enumerate() {
-        if (record.handle, record.offset, record.len) != (0, 0, 0) {
-            let bytes = Hex(&bytes[..record.len.into()]);
-            let _ = writeln!(text, "rec {i:X} {:X} {:X} {bytes}", record.handle, record.offset);
-        }
-    }
-    text + "."
-}
 
 /// Runs random sessions until there are as many calls as asked for.
 pub fn run(options: &Options, program: &str) -> ExitCode {
@@ -186,55 +27,10 @@ pub fn run(options: &Options, program: &str) -> ExitCode {
 
 /// A session from a seed.
 fn run_script(seed: u64, program: &str, totals: &mut Totals) -> Result<(), (Script, String)> {
-    let mut random = Random::new(seed);
-    let list = lists::list(&mut random);
-    let mut turns = Vec::new();
-    totals.sessions += 1;
-    let held = draw(&list, random, &mut turns, totals).and_then(|lines| hold(&lines, program, totals));
-    held.map_err(|what| (Script { seed, list, turns }, what))
-}
-
-/// Draws the turns, each from the state that the ones before it left.
-fn draw(list: &List, mut random: Random, turns: &mut Vec<Turn>, totals: &mut Totals) -> Result<Vec<Lines>, String> {
-    let (mut model, opened) = Model::open(list, totals)?;
-    let mut all = vec![opened];
-    let mut calls = Calls::new(&list.entries, Random::new(random.next()));
-    for _ in 0..random.pick(&[50, 200, 400]) {
-        for turn in next(&mut random, &mut calls, &model) {
-            turns.push(turn.clone());
-            all.push(model.take(&turn, totals)?);
-        }
-    }
-    Ok(all)
-}
-
-/// A call, and at times a look at what it left.
-fn next(random: &mut Random, calls: &mut Calls<'_>, model: &Model) -> Vec<Turn> {
-    let Some(pair) = model.pair.as_ref().filter(|_| !random.once_in(3)) else {
-        let call = table_calls::draw(random, &model.tables);
-        let look = match call {
-            TableCall::Push { .. } | TableCall::LoadBuilder(_) => TableCall::BuilderMemory,
-            _ => TableCall::Memory,
-        };
-        let closed = (model.pair.is_none() && random.once_in(10)).then_some(Turn::State);
-        let look = random.once_in(2).then_some(Turn::Table(look));
-        return [Turn::Table(call)].into_iter().chain(look).chain(closed).collect();
-    };
-    let mut step = calls.step(&pair.ours, &pair.hub);
-    step.poke = step.poke.filter(can_be_said);
-    let is_request = matches!(step.call, Call::Process { .. });
-    let tail = (is_request && random.once_in(6)).then_some(Turn::Tail);
-    let state = random.once_in(20).then_some(Turn::State);
-    [Turn::Hub(Box::new(step))]
-        .into_iter()
-        .chain(tail)
-        .chain(state)
-        .collect()
-}
-
-/// A session can't prepare more than 512 bytes.
-fn can_be_said(poke: &Poke) -> bool {
-    !matches!(poke, Poke::Record(_, record) if record.len > 512)
+    let (script, lines) = script::draw(seed, totals);
+    lines
+        .and_then(|lines| hold(&lines, program, totals))
+        .map_err(|what| (script, what))
 }
 
 /// Writes the lines to the program and holds its answers to the expected ones.

@@ -3,7 +3,7 @@
 
 use crate::random::Random;
 use crate::saved::{self, places, Place};
-use crate::tables::{last_key, trimmed, TableCall, Tables};
+use crate::tables::{trimmed, TableCall, Tables};
 use original::table;
 
 pub fn draw(random: &mut Random, tables: &Tables) -> TableCall {
@@ -44,7 +44,7 @@ fn builder_bytes(random: &mut Random, tables: &Tables) -> Vec<u8> {
 }
 
 /// A table of at most `most` bytes: the present one or another, whole or spoiled.
-fn saved_bytes(random: &mut Random, tables: &Tables, most: usize) -> Vec<u8> {
+pub fn saved_bytes(random: &mut Random, tables: &Tables, most: usize) -> Vec<u8> {
     let mut bytes = match random.below(4) {
         0 => tables.table.to_vec(),
         1 => trimmed(&tables.builder),
@@ -86,7 +86,7 @@ fn push(random: &mut Random, tables: &Tables) -> TableCall {
 /// The builder's last key, where its bytes are a builder's.
 fn last_key_of(tables: &Tables) -> u16 {
     if table::is_builder(&tables.builder) {
-        last_key(&tables.builder)
+        table::last_key(&tables.builder)
     } else {
         0
     }

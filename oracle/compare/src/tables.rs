@@ -130,7 +130,7 @@ impl Tables {
             return refused(4, Kind::NoBuilder);
         }
         let bad = len > 512 || key == 0 || key > 0x7FFF;
-        let falls = key <= last_key(&self.builder);
+        let falls = key <= table::last_key(&self.builder);
         match table::try_push(&self.builder, key, len, variable) {
             (Answer::Done, Ok(built)) => {
                 self.builder = built;
@@ -152,14 +152,6 @@ impl Tables {
 
 fn refused(number: u8, kind: Kind) -> Result<Expected, String> {
     Ok((Answer::Refused(number), Some(kind)))
-}
-
-/// The key of the last entry; 0 without one.
-pub fn last_key(builder: &Table) -> u16 {
-    match usize::from(u16::from_le_bytes([builder[0], builder[1]])) {
-        0 => 0,
-        count => u16::from_le_bytes([builder[4 * count], builder[4 * count + 1]]) & 0x7FFF,
-    }
 }
 
 fn padded(bytes: &[u8]) -> Table {

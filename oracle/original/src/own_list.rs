@@ -4,7 +4,6 @@
 use crate::att::AttErrorCode;
 use crate::connection::SecurityLevel;
 pub use crate::types::uuid::Uuid;
-use crate::Entry;
 use bt_hci::uuid::declarations::{CHARACTERISTIC, PRIMARY_SERVICE, SECONDARY_SERVICE};
 use core::cell::RefCell;
 use embassy_sync::blocking_mutex::raw::RawMutex;

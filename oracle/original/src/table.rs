@@ -82,7 +82,25 @@ pub fn push(bytes: &mut Table, key: u16, len: u16, variable: bool) -> Answer {
             Answer::Done
         }
         (Answer::Stopped(why), _) if !why.contains("overflow") => Answer::Refused(5),
-        _ => Answer::Refused(6),
+        _ => Answer::Refused(no_room(bytes, key)),
+    }
+}
+
+/// The number of a push that does not fit. The original looks at the keys' order only where an entry fits; the requirements
+/// have the lowest number first.
+fn no_room(bytes: &Table, key: u16) -> u8 {
+    if key <= last_key(bytes) {
+        5
+    } else {
+        6
+    }
+}
+
+/// The key of a builder's last entry; 0 without one.
+pub fn last_key(bytes: &Table) -> u16 {
+    match usize::from(u16::from_le_bytes([bytes[0], bytes[1]])) {
+        0 => 0,
+        count => u16::from_le_bytes([bytes[4 * count], bytes[4 * count + 1]]) & 0x7FFF,
     }
 }
 

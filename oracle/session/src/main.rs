@@ -4,9 +4,6 @@
 //!
 //! Refusals that the original does not know (1, 2 and 3) are given by the requirements' rules; `--raw` leaves them out.
 
-mod parse;
-mod session;
-
 use session::Session;
 use std::io::{self, BufRead, BufWriter, Write};
 

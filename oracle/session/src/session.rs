@@ -50,7 +50,7 @@ impl Session {
             _ if word.starts_with("poke") => self.poking(word, words),
             _ => {
                 let call = words.call(word)?;
-                self.call(word, &call)
+                Some(self.call(&call))
             }
         }
     }
@@ -86,9 +86,9 @@ impl Session {
         }
     }
 
-    fn call(&mut self, word: &str, call: &Call) -> Option<String> {
+    fn call(&mut self, call: &Call) -> String {
         let Some(hub) = &self.hub else {
-            return Some("closed".to_string());
+            return "closed".to_string();
         };
         let refusal = if self.raw { None } else { refusal(hub, call) };
         let (answer, clean) = match refusal {
@@ -98,13 +98,7 @@ impl Session {
         if let Call::Process { .. } = call {
             self.clean = clean;
         }
-        Some(match (word, answer) {
-            ("notify" | "indicate", Answer::Done) => "yes".to_string(),
-            ("notify" | "indicate", Answer::Nothing) => "no".to_string(),
-            ("req", answer) => shown("rsp", "none", answer),
-            ("gettab", Answer::Value(bytes)) => shown("table", "", table::read(&bytes)),
-            (_, answer) => shown("val", "ok", answer),
-        })
+        told(call, answer)
     }
 
     fn looking(&self, word: &str) -> Option<String> {
@@ -190,6 +184,17 @@ impl Session {
     }
 }
 
+/// The line that answers a call on a hub.
+pub fn told(call: &Call, answer: Answer) -> String {
+    match (call, answer) {
+        (Call::ShouldNotify { .. } | Call::ShouldIndicate { .. }, Answer::Done) => "yes".to_string(),
+        (Call::ShouldNotify { .. } | Call::ShouldIndicate { .. }, Answer::Nothing) => "no".to_string(),
+        (Call::Process { .. }, answer) => shown("rsp", "none", answer),
+        (Call::GetTable(_), Answer::Value(bytes)) => shown("table", "", table::read(&bytes)),
+        (_, answer) => shown("val", "ok", answer),
+    }
+}
+
 /// The refusals that the original does not know.
 fn refusal(hub: &Hub, call: &Call) -> Option<u8> {
     if hub.is_valid_for(call) {
@@ -213,7 +218,7 @@ fn record(words: &mut Words<'_>) -> Option<PrepareWriteState> {
 }
 
 /// An answer as a line: `value` names one that brings bytes, `silence` stands for one that brings nothing.
-fn shown(value: &str, silence: &str, answer: Answer) -> String {
+pub fn shown(value: &str, silence: &str, answer: Answer) -> String {
     match answer {
         Answer::Value(bytes) => format!("{value} {}", Hex(&bytes)),
         Answer::Done => "ok".to_string(),
@@ -237,7 +242,7 @@ fn trimmed(bytes: &[u8]) -> &[u8] {
 }
 
 /// A saved table as the table printer prints it.
-fn printed(saved: &[u8]) -> String {
+pub fn printed(saved: &[u8]) -> String {
     if !table::is_table(saved) {
         return "refused 4".to_string();
     }
@@ -254,7 +259,8 @@ fn printed(saved: &[u8]) -> String {
     text
 }
 
-fn state(hub: &Hub) -> String {
+/// The whole state, as `state` shows it.
+pub fn state(hub: &Hub) -> String {
     let mut text = String::new();
     for (entry, length) in hub.list().iter().zip(hub.lengths()) {
         let length = length.map_or_else(|| "client".to_string(), |length| format!("{length:X}"));
