@@ -36,7 +36,36 @@ pub fn run(totals: &mut Totals) -> Result<(), Fault> {
         }
     }
     let list = written(&[("sv", TYPE, 512), ("cv", TYPE, 512)]);
-    case("the limits of what is prepared", &list, &on_record(&list), totals)
+    case("the limits of what is prepared", &list, &on_record(&list), totals)?;
+    let (list, steps) = on_rows();
+    case("the limits of rows", &list, &steps, totals)
+}
+
+/// Many rows alike, and buffers that leave every room behind the last that fits.
+pub fn on_rows() -> (List, Vec<Step>) {
+    let list = written(&[("sf", TYPE, 1); 20]);
+    let at = |room| listing(1).map(|request| Step::from(asked(room, request)));
+    (list, (22..=70).flat_map(at).collect())
+}
+
+/// The requests that are answered by a list, over all handles.
+fn listing(capacity: u16) -> [Request; 4] {
+    let (start, end, uuid) = (1, 0xFFFF, TYPE.to_le_bytes().to_vec());
+    [
+        Request::ReadByType {
+            start,
+            end,
+            uuid: uuid.clone(),
+        },
+        Request::ReadByGroupType { start, end, uuid },
+        Request::FindInformation { start, end },
+        Request::FindByTypeValue {
+            start,
+            end,
+            uuid: TYPE,
+            value: vec![0x5A; capacity.into()],
+        },
+    ]
 }
 
 /// Present lengths.
@@ -153,27 +182,15 @@ fn on_prepared(fresh: &Poke, marks: &[u16]) -> Vec<Step> {
 
 /// Every length of the buffer, those that are refused included.
 fn on_buffer(fresh: &Poke, capacity: u16) -> Vec<Step> {
-    let (handle, start, end, uuid) = (HANDLE, 1, 0xFFFF, TYPE.to_le_bytes().to_vec());
-    let requests = [
-        Request::Read { handle },
-        Request::ReadBlob { handle, offset: 1 },
-        Request::ReadByType {
-            start,
-            end,
-            uuid: uuid.clone(),
-        },
-        Request::ReadByGroupType { start, end, uuid },
-        Request::FindInformation { start, end },
-        Request::FindByTypeValue {
-            start,
-            end,
-            uuid: TYPE,
-            value: vec![0x5A; capacity.into()],
-        },
-    ];
-    let rooms = 22..=518;
-    let at = |room| requests.clone().map(|request| after(fresh, asked(room, request)));
-    rooms.flat_map(at).collect()
+    let handle = HANDLE;
+    let mut requests = vec![Request::Read { handle }, Request::ReadBlob { handle, offset: 1 }];
+    requests.extend(listing(capacity));
+    let at = |room| {
+        requests
+            .iter()
+            .map(move |request| after(fresh, asked(room, request.clone())))
+    };
+    (22..=518).flat_map(at).collect()
 }
 
 /// A part after what is prepared: around its end, around 512 bytes, under the same handle and others.

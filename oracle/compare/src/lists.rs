@@ -98,6 +98,13 @@ pub fn list(random: &mut Random) -> List {
     list
 }
 
+/// A list that breaks a rule, most of the time.
+pub fn spoiled(random: &mut Random) -> List {
+    let mut list = list(random);
+    spoil(random, &mut list);
+    list
+}
+
 fn sound(random: &mut Random, style: &Style, count: usize) -> List {
     // What is left of a client table: most lists stay within, some fill it or pass it by a byte or two.
     let full = random.once_in(5);

@@ -1,6 +1,8 @@
 //! Random sessions written to a folder: the lines to `stdin`, what is expected to `stdout`, as the program `session` prints it.
 
-use crate::lists::List;
+use crate::limits;
+use crate::lists::{self, List};
+use crate::random::Random;
 use crate::script::{self, Lines, Model, Totals, Turn};
 use crate::tables::TableCall;
 use crate::Options;
@@ -71,7 +73,11 @@ impl Transcript {
     }
 }
 
-/// Writes random sessions until there are as many lines as calls asked for.
+/// How many lists are opened, to be refused most of the time.
+const LISTS: u32 = 1000;
+
+/// Writes random sessions until there are as many lines as calls asked for; then what these meet seldom: rows behind which there
+/// is every room, and lists that break a rule.
 pub fn run(options: &Options, folder: &Path) -> Result<String, String> {
     let mut totals = Totals::default();
     let mut text = Transcript::default();
@@ -82,6 +88,13 @@ pub fn run(options: &Options, folder: &Path) -> Result<String, String> {
         text.clear_tables()?;
         lines.iter().for_each(|lines| text.add(lines));
         seed = seed.wrapping_add(1);
+    }
+    let (list, steps) = limits::on_rows();
+    let turns: Vec<Turn> = steps.into_iter().map(|step| Turn::Hub(Box::new(step))).collect();
+    text.play(Some(&list), &turns)?;
+    let mut random = Random::new(options.seed);
+    for _ in 0..LISTS {
+        text.play(Some(&lists::spoiled(&mut random)), &[])?;
     }
     text.write(folder)?;
     Ok(format!(
