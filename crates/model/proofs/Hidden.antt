@@ -24,7 +24,7 @@ use Rattle.model.specs.declared.Form.{Form}
 -- a code alone
 pub hidden-read : (link : Link) (store table r : List ℕ) (c : ℕ) → mayRead (attributeOf r) link ≡ Denied c → seenBy link store table r .read ≡ Code c
 unfolding seenBy
-hidden-read link store table r c e = rw e
+hidden-read link store table r c e = ap (λ (a : Access). ifMet a (readOf store table (attributeOf r)) Code) e
 
 -- two stores and two tables, where the tables are one list
 module _ (link : Link) (r : List ℕ) (s s′ t t′ : List ℕ) (own : view t ≡ view t′) where

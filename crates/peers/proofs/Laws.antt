@@ -72,7 +72,7 @@ module _ (who : Identity) (s : Slot) where
 module _ (row : List Slot) (who : Identity) where
   pub takes : (i : ℕ) → placeFrom (isUsable who) row 0 ≡ At i → Take i ≡ choiceOf row who
   unfolding choiceOf
-  takes i h = rw h
+  takes i h = ap (λ (f : Found). byUsable f (placeFrom isFree row 0)) (sym h)
 
   pub retakes : (i : ℕ) → placeFrom (isUsable who) row 0 ≡ Nothing → placeFrom isFree row 0 ≡ At i → Retake i ≡ choiceOf row who
   unfolding choiceOf
