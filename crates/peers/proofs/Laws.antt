@@ -4,43 +4,21 @@ use mathlib.Core.Bool.{Bool, true, false}
 use mathlib.Core.List.{List}
 use Prim.Native.Nat.{ℕ, _<_}
 use native.Mathlib.Omega.{arith}
-use lib.ListN.{length, getD}
+use lib.ListN.{length}
 use lib.Dec.{ltb}
 use borrow.Author.Tests.{eq-eqb, ne-eqb}
 use Rattle.wire.specs.Test.{both}
-use Rattle.wire.specs.Bytes.{zeros, alike}
+use Rattle.wire.specs.Bytes.{zeros}
 use Rattle.wire.specs.Walk.{placeFrom}
 use Rattle.wire.specs.declared.Found.{Found}
 use Rattle.wire.specs.declared.Found.the-variants.{At, Nothing}
-use Rattle.wire.proofs.Tests.{both-false-l, both-false-r}
-use Rattle.wire.proofs.Fold.{alike-eq}
+use Rattle.wire.proofs.Tests.{both-false-l}
 use Rattle.wire.proofs.Walk.{placed}
 use Rattle.peers.specs.Identity.{sameId, isEmpty, isBad}
 use Rattle.peers.specs.Slots.{matches, slotOf, isUsable, isFree, byFree, byUsable, choiceOf, left, nobody, noSlot}
 use Rattle.peers.specs.declared.Identity.{Identity}
 use Rattle.peers.specs.declared.Slot.{Slot}
 use Rattle.peers.specs.declared.Choice.the-variants.{Take, Retake, Full}
-
--- bytes that start with another are others
-not-alike : (xs ys : List ℕ) → (getD xs 0 0 ≡ getD ys 0 0 → ⊥) → alike xs ys ≡ false
-not-alike xs ys h = by (alike xs ys) refl
-  where
-    by : (t : Bool) → alike xs ys ≡ t → alike xs ys ≡ false
-    by true e = absurd (h (ap (λ (l : List ℕ). getD l 0 0) (alike-eq xs ys e)))
-    by false e = e
-
-module _ (a b : Identity) where
-  pub other-kind : (a .kind ≡ b .kind → ⊥) → false ≡ sameId a b
-  unfolding sameId
-  other-kind h = sym (both-false-l _ _ (ne-eqb _ _ h))
-
-  pub other-start : (getD (a .addr) 0 0 ≡ getD (b .addr) 0 0 → ⊥) → false ≡ sameId a b
-  unfolding sameId
-  other-start h = sym (both-false-r _ _ (not-alike (a .addr) (b .addr) h))
-
-  pub by-address : a .kind ≡ b .kind → alike (a .addr) (b .addr) ≡ sameId a b
-  unfolding sameId both
-  by-address h = rw (eq-eqb (a .kind) (b .kind) h)
 
 module _ (a : Identity) where
   pub some-kind : (a .kind ≡ 0 → ⊥) → false ≡ isEmpty a
