@@ -1,4 +1,4 @@
-# The functions of a part that callgrind wrote, with their own instructions in one call, most first to be sorted. A line with a
+# The functions of a part that callgrind or count.c wrote, with their own instructions in one call, most first to be sorted. A line with a
 # place and a cost belongs to the function named last; the one after `calls=` is the cost of what is called, and is passed over.
 /^fn=/ { name = substr($0, 4) }
 /^calls=/ { getline; next }

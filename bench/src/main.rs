@@ -1,5 +1,5 @@
 //! `speed SIDE HUB`: makes every kind of call on one side, `ours` (the proved library) or `rust` (the original), so that
-//! callgrind can count them, and prints every answer, so that the two sides can be held to each other. The side `refused` is the
+//! they can be counted, and prints every answer, so that the two sides can be held to each other. The side `refused` is the
 //! library with calls of nobody: each is refused 3, when every test has been made and nothing else.
 //! `speed stack`: prints how deep each public call of the library goes into the stack.
 //!
@@ -114,7 +114,7 @@ fn show(side: &mut impl Side, list: &[Entry]) {
     }
 }
 
-/// Here callgrind writes down what it has counted and starts again.
+/// Here what has been counted is written down, and counting starts again.
 #[inline(never)]
 fn kind_ends() {
     std::hint::black_box(());
