@@ -50,7 +50,7 @@ pub fn get(
     requires { ⌜ Ready (now list) (length (now store)) (now tables) slot ⌝ }
     ensures { λ r. ⌜ Answered (now (out .entry)) (now (out .exit)) r (fetchTold (now (list .entry)) (now (store .entry)) (tableAt (now (tables .entry)) slot) (placeOf (now (list .entry)) handle) (length (now (out .entry)))) ⌝ }
 {
-    let Found::At(i) = attribute::inner::find_listed(list, handle) else {
+    let Found::At(i) = attribute::walk::find_listed(list, handle) else {
         return Answer::NoHandle;
     };
     match slot {
@@ -84,7 +84,7 @@ pub fn set(
     ensures { λ r. ⌜ (toldAnswer [] r ≡ storeTold (now (list .entry)) (now (store .entry)) (tableAt (now (tables .entry)) slot) (placeOf (now (list .entry)) handle) (length (now (d .entry))))
         × Left (storeLeft (lent (now (list .entry)) (now (store .entry)) (now (tables .entry))) slot (placeOf (now (list .entry)) handle) (now (d .entry))) (now (list .exit)) (now (store .exit)) (now (tables .exit)) ⌝ }
 {
-    let Found::At(i) = attribute::inner::find_listed(list, handle) else {
+    let Found::At(i) = attribute::walk::find_listed(list, handle) else {
         return Answer::NoHandle;
     };
     if is_wrong_length(list, i, d.len()) {

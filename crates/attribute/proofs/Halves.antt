@@ -1,9 +1,9 @@
--- The lookup by halves and the plain walk agree where handles ascend, as they do in a right list. Assumes nothing.
+-- By halves, where handles ascend, as they do in a right list: where a handle parts the list, and that its place is the plain walk's. Assumes nothing.
 use mathlib.Core.Path.{_≡_, refl, sym, ap}
 use mathlib.Core.Bool.{true}
 use mathlib.Core.List.{List, []}
 use mathlib.Core.Logic.{⊎-elim}
-use Prim.Native.Nat.{ℕ, _+_, _≤_, _<_}
+use Prim.Native.Nat.{ℕ, _+_, _-_, _≤_, _<_}
 use native.Mathlib.Nat.{eq-or-lt-of-le}
 use native.Mathlib.Omega.{arith}
 use lib.ListN.{length, getD}
@@ -14,6 +14,7 @@ use Rattle.wire.proofs.Tests.{split}
 use Rattle.wire.proofs.Walk.{placed, at-first}
 use Rattle.attribute.specs.Rules.{listOk}
 use Rattle.attribute.specs.Lookup.{handleOf, hasHandle, placeOf, Ascends}
+use Rattle.attribute.specs.Walk.{Parts}
 use Rattle.attribute.proofs.Shape.{handle-is, ascends}
 
 -- the handles of a right list ascend
@@ -24,55 +25,93 @@ ascending list store ok =
     }
 
 -- a later place has no lower handle
-climbs : (list : List (List ℕ)) → Ascends list → (i j : ℕ) → i ≤ j → j < length list → handleOf (getD list i []) ≤ handleOf (getD list j [])
+pub climbs : (list : List (List ℕ)) → Ascends list → (i j : ℕ) → i ≤ j → j < length list → handleOf (getD list i []) ≤ handleOf (getD list j [])
 climbs list a i j b l =
     ⊎-elim
     (λ (s : i ≡ j). omega (arith, ap (λ k. handleOf (getD list k [])) s))
     (λ (m : i < j). omega (arith, a .above i j m l))
     (eq-or-lt-of-le b)
 
+-- what the halves know: up to lo every handle is below, and from hi on none is
+pub record Halved (list : List (List ℕ)) (h lo hi : ℕ) : Type 0 where
+  pub order : lo ≤ hi
+  pub inside : hi ≤ length list
+  pub below : (j : ℕ) → j < lo → handleOf (getD list j []) < h
+  pub above : (j : ℕ) → hi ≤ j → j < length list → h ≤ handleOf (getD list j [])
+
 module _ (list : List (List ℕ)) (h : ℕ) where
-  -- what the halves know: wherever the handle stands, it is from lo on and before hi
-  pub Between : ℕ → ℕ → Type 0
-  Between lo hi = (j : ℕ) → j < length list → handleOf (getD list j []) ≡ h → (lo ≤ j) × (j < hi)
+  pub halved-start : Halved list h 0 (length list)
+  halved-start = record { order = omega arith; inside = omega arith; below = λ j b. absurd (omega arith); above = λ j a b. absurd (omega arith) }
 
-  pub anywhere : Between 0 (length list)
-  unfolding Between
-  anywhere j l s = (omega arith, l)
+  pub halved-end : (lo hi : ℕ) → hi ≤ lo → Halved list h lo hi → Parts list h lo
+  halved-end lo hi e k =
+      record {
+        inside = omega (arith, k .order, k .inside);
+        below = k .below;
+        above = λ j a b. k .above j (omega (arith, k .order)) b;
+      }
 
-  -- v, the handle at p, is below it: then it stands behind p
-  pub up : (lo hi p v next : ℕ) → Ascends list → Between lo hi → v ≡ handleOf (getD list p []) → p < length list → v < h → next ≤ p + 1 → Between next hi
-  unfolding Between
-  up lo hi p v next a b e k m n j l s =
-      ⊎-elim
-      (λ (q : p < j). (omega arith, b j l s .1))
-      (λ (q : j ≤ p). absurd (omega (arith, climbs list a j p q k)))
-      (split p j)
+  -- v, the handle at p, is below it, or not
+  module _ (lo hi p v next : ℕ) (asc : Ascends list) (k : Halved list h lo hi) (e : v ≡ handleOf (getD list p [])) (l : p < hi) where
+    pub halved-up : v < h → next ≡ p + 1 → Halved list h next hi
+    halved-up m n =
+        record {
+          order = omega arith;
+          inside = k .inside;
+          below = λ j b. omega (arith, climbs list asc j p (omega arith) (omega (arith, k .inside)));
+          above = k .above;
+        }
 
-  -- v is above it: then it stands before p
-  pub down : (lo hi p v next : ℕ) → Ascends list → Between lo hi → v ≡ handleOf (getD list p []) → h < v → p ≤ next → Between lo next
-  unfolding Between
-  down lo hi p v next a b e m n j l s =
-      ⊎-elim
-      (λ (q : j < p). (b j l s .0, omega arith))
-      (λ (q : p ≤ j). absurd (omega (arith, climbs list a p j q l)))
-      (split j p)
+    pub halved-down : h ≤ v → lo ≤ p → next ≡ p → Halved list h lo next
+    halved-down m o n =
+        record {
+          order = omega arith;
+          inside = omega (arith, k .inside);
+          below = k .below;
+          above = λ j a b. omega (arith, climbs list asc p j (omega arith) b);
+        }
 
+  -- the list starts in the range, or ends in it
+  pub parts-first : (v : ℕ) → Ascends list → v ≡ handleOf (getD list 0 []) → h ≤ v → Parts list h 0
+  parts-first v asc e m =
+      record {
+        inside = omega arith;
+        below = λ j b. absurd (omega arith);
+        above = λ j a b. omega (arith, climbs list asc 0 j a b);
+      }
+
+  pub parts-last : (v : ℕ) → Ascends list → 0 < length list → v ≡ handleOf (getD list (length list - 1) []) → v < h → Parts list h (length list)
+  parts-last v asc z e m =
+      record {
+        inside = omega arith;
+        below = λ j b. omega (arith, climbs list asc j (length list - 1) (omega arith) (omega arith));
+        above = λ j a b. absurd (omega arith);
+      }
+
+  pub parts-none : length list ≡ 0 → Parts list h 0
+  parts-none z = record { inside = omega arith; below = λ j b. absurd (omega arith); above = λ j a b. absurd (omega arith) }
+
+-- the place of a handle
+module _ (list : List (List ℕ)) (h p : ℕ) (a : Ascends list) where
   -- the place that has the handle is the one that the walk finds
-  pub found : (p : ℕ) → Ascends list → p < length list → handleOf (getD list p []) ≡ h → At p ≡ placeOf list h
-  found p a l e =
+  pub found : p < length list → handleOf (getD list p []) ≡ h → At p ≡ placeOf list h
+  found l e =
       sym (at-first (hasHandle h) [] list p 0 p (omega arith) l
       (λ k b c. ne-eqb (handleOf (getD list k [])) h (λ q. omega (arith, a .above k p c l)))
       (eq-eqb _ _ e))
 
-  -- and where none is left, the walk finds none
-  pub missing : (lo hi : ℕ) → hi ≤ lo → Between lo hi → Nothing ≡ placeOf list h
-  unfolding Between
-  missing lo hi n b = sym (by (placeOf list h) refl)
+  -- and where the place has another, the walk finds none
+  pub missing : Parts list h p → (p < length list → handleOf (getD list p []) ≡ h → ⊥) → Nothing ≡ placeOf list h
+  missing k n = sym (by (placeOf list h) refl)
     where
       by : (f : Found) → placeOf list h ≡ f → f ≡ Nothing
       by (At i) e =
           let w = placed (hasHandle h) [] list 0 i e in
-          let k = b i (w .inside) (eqb-true _ _ (w .passes)) in
-          absurd (omega arith)
+          let q : handleOf (getD list i []) ≡ h = eqb-true _ _ (w .passes) in
+          ⊎-elim
+          (λ (m : i < p). absurd (omega (arith, k .below i m)))
+          (λ (m : p ≤ i).
+          let l : p < length list = omega (arith, w .inside) in
+          absurd (n l (omega (arith, climbs list a p i m (w .inside), k .above p (omega arith) l))))
+          (split i p)
       by Nothing e = refl

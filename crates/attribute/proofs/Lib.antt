@@ -1,7 +1,8 @@
 pub mod Reading
-pub mod Short
 pub mod Entries
+pub mod Short
 pub mod Shape
 pub mod Halves
 pub mod Places
+pub mod Walks
 pub mod Kept

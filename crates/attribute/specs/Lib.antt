@@ -1,4 +1,5 @@
 pub mod Record
 pub mod Lookup
+pub mod Walk
 pub mod Needs
 pub mod Rules

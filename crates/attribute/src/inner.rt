@@ -6,10 +6,9 @@ ghost use lib.ListN.{length, getD, set};
 ghost use lib.Dec.{eqb};
 ghost use Rattle.wire.specs.Uuid.{sameUuid};
 ghost use Rattle.attribute.specs.Record.{attributeOf, uuidOf, withLength, entryOf};
-ghost use Rattle.attribute.specs.Lookup.{handleOf, placeOf, Ascends, isWithin, isWanted, isService, InGroup};
+ghost use Rattle.attribute.specs.Lookup.{handleOf, isWithin, isWanted, isService, InGroup};
 use crate::Attribute;
 use crate::Group;
-use wire::Found;
 use wire::least;
 
 // The record's fields.
@@ -66,33 +65,49 @@ fn same_short(r: &[u8], wanted: &[u8]) -> bool
 }
 
 // Whether a record's UUID is a short one.
-fn is_short(r: &[u8]) -> bool
+pub fn is_short(r: &[u8]) -> bool
     requires { ⌜ length (now r) ≡ 32 ⌝ }
     ensures { λ t. ⌜ t ≡ eqb (getD (now (r .entry)) 11 0) 2 ⌝ }
 {
     r[11] == 2
 }
 
-// Whether an entry starts a service, primary or secondary. Most UUIDs are short, and there two bytes decide; so in the next function.
-fn is_service(list: &[[u8; 32]], i: usize) -> bool
-    requires { ⌜ i < length (now list) ⌝ }
-    ensures { λ r. ⌜ r ≡ isService (entryOf (getD (now (list .entry)) i [])) ⌝ }
+// Whether a short UUID is a service's, primary or secondary: 0x2800 or 0x2801.
+fn is_short_service(r: &[u8]) -> bool
+    requires { ⌜ (length (now r) ≡ 32) × (getD (now r) 11 0 ≡ 2) ⌝ }
+    ensures { λ t. ⌜ t ≡ isService (entryOf (now (r .entry))) ⌝ }
 {
-    if is_short(&list[i]) {
-        if same_short(&list[i], &[0x00, 0x28]) {
-            return true;
-        }
-        return same_short(&list[i], &[0x01, 0x28]);
+    if 1 < r[12] {
+        return false;
     }
-    let u = uuid(&list[i]);
+    r[13] == 0x28
+}
+
+// Whether one of any length is, after widening.
+fn is_wide_service(r: &[u8]) -> bool
+    requires { ⌜ length (now r) ≡ 32 ⌝ }
+    ensures { λ t. ⌜ t ≡ isService (entryOf (now (r .entry))) ⌝ }
+{
+    let u = uuid(r);
     if wire::uuid::same_uuid(u, &[0x00, 0x28]) {
         return true;
     }
     wire::uuid::same_uuid(u, &[0x01, 0x28])
 }
 
+// Whether an entry starts a service. Most UUIDs are short, and there two bytes decide.
+fn is_service(list: &[[u8; 32]], i: usize) -> bool
+    requires { ⌜ i < length (now list) ⌝ }
+    ensures { λ r. ⌜ r ≡ isService (entryOf (getD (now (list .entry)) i [])) ⌝ }
+{
+    if is_short(&list[i]) {
+        return is_short_service(&list[i]);
+    }
+    is_wide_service(&list[i])
+}
+
 // The group of the entry at place i, from there on: it stops at the next service or behind the list, and ends at the handle before that.
-pub fn group_at(list: &[[u8; 32]], i: usize) -> Group
+fn group_at(list: &[[u8; 32]], i: usize) -> Group
     requires { ⌜ i < length (now list) ⌝ }
     ensures { λ r. ⌜ (i < r .stop) × (r .stop ≤ length (now (list .entry))) × InGroup (now (list .entry)) i r ⌝ }
 {
@@ -108,6 +123,17 @@ pub fn group_at(list: &[[u8; 32]], i: usize) -> Group
     Group { stop: j, end: end }
 }
 
+// The group of the entry at place i: the one before, as long as it reaches that far.
+pub fn next_group(list: &[[u8; 32]], group: Group, i: usize) -> Group
+    requires { ⌜ (i < length (now list)) × InGroup (now list) i group ⌝ }
+    ensures { λ r. ⌜ (i < r .stop) × InGroup (now (list .entry)) i r ⌝ }
+{
+    if i < group.stop {
+        return group;
+    }
+    group_at(list, i)
+}
+
 // Whether an entry's handle lies in a range.
 pub fn is_within(list: &[[u8; 32]], i: usize, start: u16, end: u16) -> bool
     requires { ⌜ i < length (now list) ⌝ }
@@ -120,24 +146,8 @@ pub fn is_within(list: &[[u8; 32]], i: usize, start: u16, end: u16) -> bool
     h <= end
 }
 
-// Whether two UUIDs are the same, that of a record and another, of any lengths. A long one differs from a short one mostly where that
-// stands in it.
-fn same_widened(r: &[u8], wanted: &[u8]) -> bool
-    requires { ⌜ length (now r) ≡ 32 ⌝ }
-    ensures { λ t. ⌜ t ≡ sameUuid (uuidOf (now (r .entry))) (now (wanted .entry)) ⌝ }
-{
-    if is_short(r) {
-        if wanted.len() == 16 {
-            if wanted[12] != r[12] {
-                return false;
-            }
-        }
-    }
-    wire::uuid::same_uuid(uuid(r), wanted)
-}
-
 // Whether an entry is of a type.
-fn is_type(list: &[[u8; 32]], i: usize, wanted: &[u8]) -> bool
+pub fn is_type(list: &[[u8; 32]], i: usize, wanted: &[u8]) -> bool
     requires { ⌜ i < length (now list) ⌝ }
     ensures { λ r. ⌜ r ≡ sameUuid (uuidOf (getD (now (list .entry)) i [])) (now (wanted .entry)) ⌝ }
 {
@@ -146,7 +156,7 @@ fn is_type(list: &[[u8; 32]], i: usize, wanted: &[u8]) -> bool
             return same_short(&list[i], wanted);
         }
     }
-    same_widened(&list[i], wanted)
+    wire::uuid::same_uuid(uuid(&list[i]), wanted)
 }
 
 // Whether an entry lies in a range and is of a type.
@@ -158,26 +168,4 @@ pub fn is_wanted(list: &[[u8; 32]], i: usize, start: u16, end: u16, wanted: &[u8
         return false;
     }
     is_type(list, i, wanted)
-}
-
-// The place of a handle, by halves, where handles ascend.
-pub fn find_listed(list: &[[u8; 32]], handle: u16) -> Found
-    requires { ⌜ Ascends (now list) ⌝ }
-    ensures { λ r. ⌜ r ≡ placeOf (now (list .entry)) handle ⌝ }
-{
-    let mut lo = 0;
-    let mut hi = list.len();
-    while lo < hi {
-        let mid = (lo + hi) / 2;
-        let h = handle_at(list, mid);
-        if h == handle {
-            return Found::At(mid);
-        }
-        if h < handle {
-            lo = mid + 1;
-        } else {
-            hi = mid;
-        }
-    }
-    Found::Nothing
 }

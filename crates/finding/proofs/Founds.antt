@@ -1,5 +1,5 @@
--- Find By Type Value: the test of a value, the ways of a turn, and the whole answer by whether a row was written. Assumes nothing.
-use mathlib.Core.Path.{_≡_, refl, ap, _∙_}
+-- Find By Type Value: the test of a value, the ways of a row, and the whole answer by whether a row was written. Assumes nothing.
+use mathlib.Core.Path.{_≡_, refl, sym, ap, _∙_}
 use mathlib.Core.Bool.{Bool, true, false}
 use mathlib.Core.List.{List, [], _∷_, _++_}
 use Prim.Native.Nat.{ℕ, _+_, _-_, _≤_, _<_}
@@ -12,18 +12,24 @@ use Rattle.wire.specs.Bytes.{alike}
 use Rattle.wire.specs.Number.{wordBytes}
 use Rattle.wire.specs.Cursor.{put, moved, Wrote}
 use Rattle.wire.specs.declared.cursor.WriteCursor.{WriteCursor}
-use Rattle.wire.proofs.Written.{wrote-then, wrote-length}
+use Rattle.wire.proofs.Tests.{both-false-l}
+use Rattle.wire.proofs.Written.{wrote-as, wrote-then, wrote-length}
 use Rattle.attribute.specs.Record.{Entry, entryOf, attributeOf}
-use Rattle.attribute.specs.Lookup.{handleOf, entriesOf, groupEnd}
+use Rattle.attribute.specs.Lookup.{handleOf, entriesOf, groupEnd, isWanted}
+use Rattle.attribute.specs.Walk.{Parts, isOf}
 use Rattle.attribute.specs.Rules.{listOk}
 use Rattle.attribute.specs.declared.Attribute.{Attribute}
+use Rattle.attribute.specs.declared.Stretch.{Stretch}
 use Rattle.attribute.proofs.Shape.{shared}
+use Rattle.attribute.proofs.Walks.{unwanted-before, picks-type}
 use Rattle.model.specs.Value.{sharedItem}
-use Rattle.model.specs.Run.{stop, skip, put as chunk, Turned}
+use Rattle.model.specs.Run.{stop, skip, put as chunk, Rowed, Listed, run}
 use Rattle.model.specs.Rows.{holds, findTurn}
 use Rattle.model.specs.Answer.{Sent, errorRsp, foundRsp}
+use Rattle.model.proofs.Running.{run-from}
 use Rattle.model.proofs.Sending.{sent, sent-as}
 use Rattle.response.proofs.Errors.{one-byte}
+use Rattle.finding.specs.Turns.{foundAt}
 use Rattle.finding.proofs.Writes.{row}
 use Rattle.finding.proofs.Infos.{entry-handle}
 
@@ -45,32 +51,58 @@ in-store list store i a ok l e h =
     let s = shared list (length store) ok i l (rw e at h) in
     rw e (omega (arith, s .inside, s .len))
 
--- the ways of a turn
-module _ (store : List ℕ) (want : Entry → Bool) (d r : List ℕ) (rs : List (List ℕ)) (room : ℕ) where
-  pub find-skip : want (entryOf r) ≡ false → skip ≡ findTurn store want d r rs room
-  unfolding findTurn both
-  find-skip w = rw w
+-- the test of a type and a value, where the first passes
+pub both-of : (a b r : Bool) → a ≡ true → r ≡ b → r ≡ both a b
+unfolding both
+both-of a b r h e = rw h e
 
-  pub find-other : want (entryOf r) ≡ true → holds store d r ≡ false → skip ≡ findTurn store want d r rs room
-  unfolding findTurn both
-  find-other w h = rw (w, h)
+-- the ways of a row
+module _ (r : List ℕ) (rs : List (List ℕ)) (room : ℕ) where
+  pub found-full : room < 4 → stop ≡ foundAt r rs room
+  unfolding foundAt
+  found-full l = rw (lt-ltb _ _ l)
 
-  pub find-full : want (entryOf r) ≡ true → holds store d r ≡ true → room < 4 → stop ≡ findTurn store want d r rs room
-  unfolding findTurn both
-  find-full w h l = rw (w, h, lt-ltb _ _ l)
-
-  find-put : want (entryOf r) ≡ true → holds store d r ≡ true → 4 ≤ room → (h e : ℕ) → h ≡ handleOf r → e ≡ groupEnd (handleOf r) (entriesOf rs) → chunk (wordBytes h ++ wordBytes e) ≡ findTurn store want d r rs room
-  unfolding findTurn both
-  find-put w t l h e p q = rw (w, t, le-ltb _ _ l, entry-handle r, ← q, ← p)
+  found-put : 4 ≤ room → (h e : ℕ) → h ≡ handleOf r → e ≡ groupEnd (handleOf r) (entriesOf rs) → chunk (wordBytes h ++ wordBytes e) ≡ foundAt r rs room
+  unfolding foundAt
+  found-put l h e p q = rw (le-ltb _ _ l, entry-handle r, ← q, ← p)
 
 -- handle and group's end are written
-module _ (store : List ℕ) (want : Entry → Bool) (d r : List ℕ) (rs : List (List ℕ)) (out o₁ o₂ : List ℕ) (c c₁ c₂ : WriteCursor) (room : ℕ) where
-  pub find-row : c .len ≤ length out → room ≡ length out - c .len → want (entryOf r) ≡ true → holds store d r ≡ true → 4 ≤ room
+module _ (r : List ℕ) (rs : List (List ℕ)) (out o₁ o₂ : List ℕ) (c c₁ c₂ : WriteCursor) (room : ℕ) where
+  pub found-wrote : c .len ≤ length out → room ≡ length out - c .len → 4 ≤ room
       → (h e : ℕ) → h ≡ handleOf r → e ≡ groupEnd (handleOf r) (entriesOf rs)
       → c₁ ≡ moved (length out) c 2 → o₁ ≡ put out (c .len) (wordBytes h) → c₂ ≡ moved (length o₁) c₁ 2 → o₂ ≡ put o₁ (c₁ .len) (wordBytes e)
-      → Turned out o₂ c (record { more = true; cursor = c₂ }) (findTurn store want d r rs (length out - c .len))
-  find-row z m w t l h e p q a b f g =
-      row out o₁ o₂ c c₁ c₂ (wordBytes h) (wordBytes e) (omega arith) a b f g _ (find-put store want d r rs (length out - c .len) w t (omega arith) h e p q)
+      → Rowed out o₂ c c₂ (foundAt r rs (length out - c .len))
+  found-wrote z m l h e p q a b f g =
+      row out o₁ o₂ c c₁ c₂ (wordBytes h) (wordBytes e) (omega arith) (omega arith) a b f g _ (found-put r rs (length out - c .len) (omega arith) h e p q)
+
+-- a row in the run of a test t: that of an entry that it and the value's test pass, and none of another
+module _ (store d : List ℕ) (want : Entry → Bool) (r : List ℕ) (rs : List (List ℕ)) (room : ℕ) where
+  pub found-as : (t : Bool) → both t (holds store d r) ≡ true → want (entryOf r) ≡ t → foundAt r rs room ≡ findTurn store want d r rs room
+  unfolding findTurn foundAt
+  found-as t h w = rw (w, h)
+
+  pub found-other : (t : Bool) → both t (holds store d r) ≡ false → want (entryOf r) ≡ t → skip ≡ findTurn store want d r rs room
+  unfolding findTurn
+  found-other t h w = rw (w, h)
+
+  pub found-skip : want (entryOf r) ≡ false → skip ≡ findTurn store want d r rs room
+  found-skip w = found-other false (both-false-l false (holds store d r) refl) w
+
+-- the run over the whole list is that from the stretch on
+module _ (store d u : List ℕ) (list : List (List ℕ)) (start end : ℕ) (p : Stretch) (a : Parts list start (p .from)) (b : Parts list (end + 1) (p .to)) where
+  found-from : (room : ℕ) → run (findTurn store (isWanted start end u) d) (drop (p .from) list) room ≡ run (findTurn store (isWanted start end u) d) list room
+  found-from room =
+      let z : 0 + p .from ≡ p .from = omega arith in
+      rw z at
+      (sym (run-from (findTurn store (isWanted start end u) d) [] list (p .from) 0 room (omega (arith, a .inside))
+      (λ j x y. found-skip store d (isWanted start end u) (getD list j []) (drop (j + 1) list) room (unwanted-before list start end p a b u j (omega arith)))))
+
+  -- so the rows of the stretch are those of the list
+  pub found-rows : (old new : List ℕ) (c next : WriteCursor)
+      → Listed (λ (want : Entry → Bool). findTurn store want d) (isOf u) list p old new c next
+      → Wrote old new c next (run (findTurn store (isWanted start end u) d) list (length old - c .len))
+  found-rows old new c next f =
+      wrote-as old c new _ _ next (f (isWanted start end u) (picks-type list start end p a b u)) (found-from (length old - c .len))
 
 -- the opcode before the rows
 module _ (old o₁ : List ℕ) (c₀ c₁ : WriteCursor) (room : 1 ≤ length old) (z : c₀ .len ≡ 0) (e : c₁ ≡ moved (length old) c₀ 1) (p : o₁ ≡ put old (c₀ .len) (0x07 ∷ [])) where

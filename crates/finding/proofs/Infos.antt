@@ -1,4 +1,4 @@
--- Find Information: the ways of a turn, and the whole answer by what the search for the first entry finds. Assumes nothing.
+-- Find Information: the ways of a row, and the whole answer by where the first entry of the range is. Assumes nothing.
 use mathlib.Core.Path.{_≡_, refl, sym, ap, _∙_}
 use mathlib.Core.Bool.{Bool, true, false, cond}
 use mathlib.Core.List.{List, [], _∷_, _++_}
@@ -19,8 +19,8 @@ use Rattle.wire.proofs.Walk.{placed}
 use Rattle.wire.proofs.Written.{wrote-then, wrote-length, wrote-next}
 use Rattle.attribute.specs.Record.{Entry, entryOf, attributeOf, uuidOf}
 use Rattle.attribute.specs.Lookup.{handleOf, entriesOf, recorded}
-use Rattle.model.specs.Run.{run, fromFirst, stop, skip, put as chunk, Turned}
-use Rattle.model.specs.Rows.{infoTurn}
+use Rattle.model.specs.Run.{run, fromFirst, stop, skip, put as chunk, Rowed}
+use Rattle.model.specs.Rows.{infoTurn, anyEntry}
 use Rattle.model.specs.Answer.{Sent, errorRsp, infoFrom}
 use Rattle.model.proofs.Running.{run-map, from-map, starts-at, starts-nowhere}
 use Rattle.model.proofs.Sending.{sent, sent-as}
@@ -38,31 +38,37 @@ module _ (r : List ℕ) where
   unfolding entryOf attributeOf
   entry-handle = refl
 
--- the ways of a turn
-module _ (want : Entry → Bool) (size : ℕ) (r : List ℕ) (es : List Entry) (room : ℕ) where
+-- the ways of a row
+module _ (size : ℕ) (r : List ℕ) (es : List Entry) (room : ℕ) where
+  pub info-other : (u : List ℕ) → u ≡ uuidOf r → (length u ≡ size → ⊥) → stop ≡ infoTurn anyEntry size (entryOf r) es room
+  unfolding infoTurn both
+  info-other u q n = rw (entry-uuid r, ← q, ne-eqb _ _ n)
+
+  pub info-full : (u : List ℕ) → u ≡ uuidOf r → length u ≡ size → room < size + 2 → stop ≡ infoTurn anyEntry size (entryOf r) es room
+  unfolding infoTurn both
+  info-full u q n l = rw (entry-uuid r, ← q, eq-eqb _ _ n, lt-leb _ _ l)
+
+  info-put : (u : List ℕ) → u ≡ uuidOf r → length u ≡ size → (h : ℕ) → h ≡ handleOf r → size + 2 ≤ room → chunk (wordBytes h ++ u) ≡ infoTurn anyEntry size (entryOf r) es room
+  unfolding infoTurn both
+  info-put u q n h e l = rw (entry-uuid r, entry-handle r, ← q, ← e, eq-eqb _ _ n, le-leb _ _ l)
+
+-- handle and UUID are written
+module _ (size : ℕ) (r : List ℕ) (es : List Entry) (out o₁ o₂ : List ℕ) (c c₁ c₂ : WriteCursor) (room : ℕ) where
+  pub info-wrote : c .len ≤ length out → room ≡ length out - c .len → (u : List ℕ) → u ≡ uuidOf r → length u ≡ size → (h : ℕ) → h ≡ handleOf r → size + 2 ≤ room
+      → c₁ ≡ moved (length out) c 2 → o₁ ≡ put out (c .len) (wordBytes h) → c₂ ≡ moved (length o₁) c₁ (length u) → o₂ ≡ put o₁ (c₁ .len) u
+      → Rowed out o₂ c c₂ (infoTurn anyEntry size (entryOf r) es (length out - c .len))
+  info-wrote z m u q n h e l a b f g =
+      row out o₁ o₂ c c₁ c₂ (wordBytes h) u (omega arith) (omega arith) a b f g _ (info-put size r es (length out - c .len) u q n h e (omega arith))
+
+-- a row in the run of a test: that of an entry that is wanted, and none of one that is not
+module _ (size : ℕ) (want : Entry → Bool) (r : List ℕ) (es : List Entry) (room : ℕ) where
+  pub info-as : want (entryOf r) ≡ true → infoTurn anyEntry size (entryOf r) es room ≡ infoTurn want size (entryOf r) es room
+  unfolding infoTurn
+  info-as w = rw w
+
   pub info-skip : want (entryOf r) ≡ false → skip ≡ infoTurn want size (entryOf r) es room
   unfolding infoTurn
   info-skip w = rw w
-
-  pub info-other : want (entryOf r) ≡ true → (u : List ℕ) → u ≡ uuidOf r → (length u ≡ size → ⊥) → stop ≡ infoTurn want size (entryOf r) es room
-  unfolding infoTurn both
-  info-other w u q n = rw (w, entry-uuid r, ← q, ne-eqb _ _ n)
-
-  pub info-full : want (entryOf r) ≡ true → (u : List ℕ) → u ≡ uuidOf r → length u ≡ size → room < size + 2 → stop ≡ infoTurn want size (entryOf r) es room
-  unfolding infoTurn both
-  info-full w u q n l = rw (w, entry-uuid r, ← q, eq-eqb _ _ n, lt-leb _ _ l)
-
-  info-put : want (entryOf r) ≡ true → (u : List ℕ) → u ≡ uuidOf r → length u ≡ size → (h : ℕ) → h ≡ handleOf r → size + 2 ≤ room → chunk (wordBytes h ++ u) ≡ infoTurn want size (entryOf r) es room
-  unfolding infoTurn both
-  info-put w u q n h e l = rw (w, entry-uuid r, entry-handle r, ← q, ← e, eq-eqb _ _ n, le-leb _ _ l)
-
--- handle and UUID are written
-module _ (want : Entry → Bool) (size : ℕ) (r : List ℕ) (es : List Entry) (out o₁ o₂ : List ℕ) (c c₁ c₂ : WriteCursor) (room : ℕ) where
-  pub info-row : c .len ≤ length out → room ≡ length out - c .len → want (entryOf r) ≡ true → (u : List ℕ) → u ≡ uuidOf r → length u ≡ size → (h : ℕ) → h ≡ handleOf r → size + 2 ≤ room
-      → c₁ ≡ moved (length out) c 2 → o₁ ≡ put out (c .len) (wordBytes h) → c₂ ≡ moved (length o₁) c₁ (length u) → o₂ ≡ put o₁ (c₁ .len) u
-      → Turned out o₂ c (record { more = true; cursor = c₂ }) (infoTurn want size (entryOf r) es (length out - c .len))
-  info-row z m w u q n h e l a b f g =
-      row out o₁ o₂ c c₁ c₂ (wordBytes h) u (omega arith) a b f g _ (info-put want size r es (length out - c .len) w u q n h e (omega arith))
 
 -- the whole answer
 module _ (want : Entry → Bool) (list : List (List ℕ)) (start room : ℕ) where

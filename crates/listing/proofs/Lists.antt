@@ -6,25 +6,24 @@ use mathlib.Core.Logic.{⊎-elim}
 use Prim.Native.Nat.{ℕ, suc, _+_, _-_, _≤_, _<_, min}
 use native.Mathlib.Numerals.{add-one}
 use native.Mathlib.Omega.{arith}
-use lib.ListN.{length, getD, take, drop, length-take}
+use lib.ListN.{length, getD, take, drop, length-take, length-append}
 use lib.Seq.{take-all, drop-cons}
 use borrow.Author.Tests.{lt-ltb, le-ltb, eq-eqb, ne-eqb}
 use Rattle.wire.specs.Number.{wordBytes}
 use Rattle.wire.specs.Cursor.{put as written, moved, Wrote}
 use Rattle.wire.specs.Walk.{placeFrom}
-use Rattle.wire.specs.declared.Found.{Found}
 use Rattle.wire.specs.declared.Found.the-variants.{At, Nothing}
 use Rattle.wire.specs.declared.cursor.WriteCursor.{WriteCursor}
 use Rattle.wire.proofs.Tests.{split}
 use Rattle.wire.proofs.Walk.{placed}
-use Rattle.wire.proofs.Written.{wrote, wrote-then, wrote-as, wrote-length, wrote-next}
+use Rattle.wire.proofs.Written.{wrote, wrote-then, wrote-length, wrote-next}
 use Rattle.attribute.specs.Record.{Entry, entryOf, attributeOf}
 use Rattle.attribute.specs.Lookup.{handleOf, entriesOf, recorded, groupEnd}
 use Rattle.attribute.specs.declared.Link.{Link}
 use Rattle.model.specs.Value.{Got}
 use Rattle.model.specs.View.{Seen, seenBy, seenAll}
-use Rattle.model.specs.Run.{Chunk, stop, skip, put, run, fromFirst, Turned}
-use Rattle.model.specs.Rows.{pairOf, lead, extraOf, cut, entriesIn, valueTurn, rowTurn}
+use Rattle.model.specs.Run.{Chunk, stop, skip, put, run, fromFirst}
+use Rattle.model.specs.Rows.{pairOf, lead, extraOf, cut, anyEntry, entriesIn, valueTurn, rowTurn}
 use Rattle.model.specs.Answer.{Sent, errorRsp, firstRsp, listFrom}
 use Rattle.model.specs.declared.Form.{Form}
 use Rattle.model.proofs.Running.{run-map, starts-at, starts-nowhere, from-map, map-map}
@@ -110,41 +109,41 @@ module _ (f : Form) (store t : List ℕ) (e : Entry) (es : List Entry) (size roo
   unfolding gotOf valueTurn
   no-value c q = rw q
 
-  -- n of its bytes are to go in, by the room k that the code found
-  module _ (s : Span) (q : v ≡ Here s) (b : s .start + s .len ≤ length (sideOf store t s)) (n k : ℕ) (m : n ≡ cutTo f k (s .len)) (o : k ≡ room) where
-    n-is : n ≡ cutTo f room (s .len)
-    n-is = m ∙ ap (λ (x : ℕ). cutTo f x (s .len)) o
-
+  -- n of its bytes are to go in
+  module _ (s : Span) (q : v ≡ Here s) (b : s .start + s .len ≤ length (sideOf store t s)) (n : ℕ) (m : n ≡ cutTo f room (s .len)) where
     pub other-size : (n ≡ size → ⊥) → stop ≡ valueTurn f size e es room (gotOf store t v)
     unfolding gotOf valueTurn
-    other-size d = rw (q, ne-eqb (length (cut f room (spanBytes store t s))) size (λ x. d (n-is ∙ sym (cut-is f store t room s b) ∙ x)))
+    other-size d = rw (q, ne-eqb (length (cut f room (spanBytes store t s))) size (λ x. d (m ∙ sym (cut-is f store t room s b) ∙ x)))
 
-    row-is : n ≡ size → put (lead f e es ++ cut f room (spanBytes store t s)) ≡ valueTurn f size e es room (gotOf store t v)
+    pub row-is : n ≡ size → put (lead f e es ++ take size (spanBytes store t s)) ≡ valueTurn f size e es room (gotOf store t v)
     unfolding gotOf valueTurn
-    row-is x = rw (q, eq-eqb (length (cut f room (spanBytes store t s))) size (cut-is f store t room s b ∙ sym n-is ∙ x))
-
-    pub row-put : n ≡ size → (old mid new : List ℕ) (c next last : WriteCursor) → Wrote old mid c next (lead f e es) → Wrote mid new next last (take n (spanBytes store t s)) → Turned old new c (record { more = true; cursor = last }) (valueTurn f size e es room (gotOf store t v))
-    row-put x old mid new c next last a w =
-        rw (← row-is x)
-        (record {
-          more = refl;
-          wrote = wrote-then old c mid new (lead f e es) (cut f room (spanBytes store t s)) next last a (wrote-as mid next new _ _ last w (cut-bytes f store t room s b n n-is));
-        })
+    row-is x =
+        let y : size ≡ cutTo f room (s .len) = sym x ∙ m in
+        rw (q, eq-eqb (length (cut f room (spanBytes store t s))) size (cut-is f store t room s b ∙ sym m ∙ x), cut-bytes f store t room s b size y)
 
 -- the room behind a lead
-pub behind-lead : (f : Form) (e : Entry) (es : List Entry) (old mid : List ℕ) (c next : WriteCursor) (n size : ℕ) → n ≡ size → c .len + (size + extraOf f) ≤ length old → Wrote old mid c next (lead f e es) → next .len + n ≤ length mid
-behind-lead f e es old mid c next n size x h w =
+pub behind-lead : (f : Form) (e : Entry) (es : List Entry) (old mid : List ℕ) (c next : WriteCursor) (size : ℕ) → c .len + (size + extraOf f) ≤ length old → Wrote old mid c next (lead f e es) → next .len + size ≤ length mid
+behind-lead f e es old mid c next size h w =
     let a : next .len ≡ c .len + length (lead f e es) = ap (λ (x : WriteCursor). x .len) (w .cursor) in
     omega (arith, lead-length f e es, wrote-length _ _ _ _ _ w)
 
 pub span-inside : (store t : List ℕ) (v : Located) (s : Span) → v ≡ Here s → Inside store t v → s .start + s .len ≤ length (sideOf store t s)
 span-inside store t v s e b = rw e at b
 
+-- what is written behind it
+pub some-bytes : (f : Form) (e : Entry) (es : List Entry) (v : List ℕ) → 0 < length (lead f e es ++ v)
+some-bytes f e es v = omega (arith, length-append (lead f e es) v, lead-length f e es, extra-least f)
+
 -- the ways of a turn
 module _ (f : Form) (link : Link) (store t : List ℕ) (want : Entry → Bool) (size : ℕ) (r : List ℕ) (rs : List (List ℕ)) (room : ℕ) where
   pub turn-skip : want (entryOf r) ≡ false → skip ≡ rowAt f link store t want size r rs room
   unfolding rowTurn seenBy
   turn-skip w = rw w
+
+  -- a wanted entry's turn is that of one of which nothing is asked
+  pub turn-any : want (entryOf r) ≡ true → rowAt f link store t anyEntry size r rs room ≡ rowAt f link store t want size r rs room
+  unfolding rowTurn seenBy
+  turn-any w = rw w
 
   module _ (w : want (entryOf r) ≡ true) where
     pub turn-full : room < size + extraOf f → stop ≡ rowAt f link store t want size r rs room
@@ -159,11 +158,8 @@ module _ (f : Form) (link : Link) (store t : List ℕ) (want : Entry → Bool) (
     unfolding rowTurn seenBy
     turn-value l g e = rw (w, le-ltb _ _ l, after, e)
 
--- the ways of the whole answer, by what the search for the first wanted entry finds
-pub found-inside : (p : List ℕ → Bool) (list : List (List ℕ)) (found : Found) (i : ℕ) → found ≡ placeFrom p list 0 → found ≡ At i → i < length list
-found-inside p list found i a e = placed p [] list 0 i (sym a ∙ e) .inside
-
-module _ (f : Form) (link : Link) (store t : List ℕ) (want : Entry → Bool) (start room : ℕ) (list : List (List ℕ)) (found : Found) (a : found ≡ placeFrom (recorded want) list 0) where
+-- the ways of the whole answer, by what the walk to the first wanted entry finds
+module _ (f : Form) (link : Link) (store t : List ℕ) (want : Entry → Bool) (start room : ℕ) (list : List (List ℕ)) where
   abbrev answer : List ℕ
   answer = listFrom f want start room (fromFirst (λ (s : Seen). want (s .entry)) (seenAll link list store t))
 
@@ -171,11 +167,14 @@ module _ (f : Form) (link : Link) (store t : List ℕ) (want : Entry → Bool) (
   unfolding seenBy
   starts = from-map (seenBy link store t) (λ (s : Seen). want (s .entry)) list
 
-  pub none-found : found ≡ Nothing → errorRsp (f .op) start 0x0A ≡ answer
+  pub none-found : placeFrom (recorded want) list 0 ≡ Nothing → errorRsp (f .op) start 0x0A ≡ answer
   unfolding listFrom
-  none-found e = rw (starts, starts-nowhere (recorded want) [] list (sym a ∙ e))
+  none-found e = rw (starts, starts-nowhere (recorded want) [] list e)
 
-  module _ (i : ℕ) (e : found ≡ At i) where
+  module _ (i : ℕ) (e : placeFrom (recorded want) list 0 ≡ At i) where
+    inside : i < length list
+    inside = placed (recorded want) [] list 0 i e .inside
+
     abbrev r : List ℕ
     r = getD list i []
 
@@ -183,12 +182,12 @@ module _ (f : Form) (link : Link) (store t : List ℕ) (want : Entry → Bool) (
     firstGot g = firstRsp f want room (seenBy link store t r) (map (seenBy link store t) (drop (i + 1) list)) g
 
     rows : (n : ℕ) → run (rowAt f link store t want n) (drop i list) room ≡ run (rowTurn f want n) (seenBy link store t r ∷ map (seenBy link store t) (drop (i + 1) list)) room
-    rows n = rw (drop-cons list i [] (found-inside (recorded want) list found i a e), add-one) (sym (run-map (seenBy link store t) (rowTurn f want n) (r ∷ drop (suc i) list) room))
+    rows n = rw (drop-cons list i [] (inside), add-one) (sym (run-map (seenBy link store t) (rowTurn f want n) (r ∷ drop (suc i) list) room))
 
     module _ (v : Located) (q : v ≡ readSpan link t (attributeOf r)) where
       first-is : firstGot (gotOf store t v) ≡ answer
       unfolding listFrom
-      first-is = rw (starts, starts-at (recorded want) [] list i (sym a ∙ e)) (ap firstGot (ap (gotOf store t) q ∙ at-got store t link r))
+      first-is = rw (starts, starts-at (recorded want) [] list i e) (ap firstGot (ap (gotOf store t) q ∙ at-got store t link r))
 
       pub first-code : (c h : ℕ) → v ≡ Not c → h ≡ handleOf r → errorRsp (f .op) h c ≡ answer
       unfolding firstRsp gotOf seenBy entryOf attributeOf
@@ -197,7 +196,7 @@ module _ (f : Form) (link : Link) (store t : List ℕ) (want : Entry → Bool) (
       pub first-value : Ready list (length store) t → (s : Span) → v ≡ Here s → (size : ℕ) → size ≡ cutTo f room (s .len) → f .rsp ∷ (size + extraOf f) ∷ run (rowAt f link store t want size) (drop i list) room ≡ answer
       unfolding firstRsp gotOf
       first-value k s d size m =
-          let b : Inside store t v = rw q (at-inside store t (k .table) list (k .right) i (found-inside (recorded want) list found i a e) link) in
+          let b : Inside store t v = rw q (at-inside store t (k .table) list (k .right) i (inside) link) in
           let y : size ≡ length (cut f room (spanBytes store t s)) = m ∙ sym (cut-is f store t room s (span-inside store t v s d b)) in
           let z : f .rsp ∷ (size + extraOf f) ∷ run (rowAt f link store t want size) (drop i list) room ≡ firstGot (gotOf store t v) = rw (d, ← y, rows size) in
           z ∙ first-is

@@ -1,26 +1,27 @@
-// The two reads by type: the first wanted entry fixes the length, then a run of turns from it on, written through the cursor. A row is written only
+// The two reads by type: the first wanted entry fixes the length, then a row for each from it on, written through the cursor. A row is written only
 // once it is known to stay. A group's end is looked for once, not for each of its rows.
 ghost use mathlib.Core.Path.{_≡_};
 ghost use mathlib.Core.Bool.{true};
-ghost use mathlib.Core.List.{[]};
+ghost use mathlib.Core.List.{[], _++_};
 ghost use Prim.Native.Nat.{_+_, _-_, _≤_, _<_};
-ghost use lib.ListN.{length, getD, drop};
+ghost use lib.ListN.{length, getD, take, drop};
 ghost use Rattle.wire.specs.Cursor.{Wrote};
 ghost use Rattle.attribute.specs.Record.{entryOf};
-ghost use Rattle.attribute.specs.Lookup.{entriesOf, isWanted, groupEndAt, InGroup};
+ghost use Rattle.attribute.specs.Lookup.{entriesOf, groupEndAt, InGroup};
+ghost use Rattle.attribute.specs.Walk.{shortOf, isOf};
 ghost use Rattle.model.specs.View.{seenAll};
-ghost use Rattle.model.specs.Run.{run, Turned};
-ghost use Rattle.model.specs.Rows.{byTypeForm, byGroupForm, extraOf, lead, valueTurn};
+ghost use Rattle.model.specs.Run.{Rowed, Listed};
+ghost use Rattle.model.specs.Rows.{byTypeForm, byGroupForm, extraOf, lead, anyEntry};
 ghost use Rattle.model.specs.Answer.{Sent, listRsp};
-ghost use Rattle.values.specs.Locate.{gotOf, Inside, Ready};
+ghost use Rattle.values.specs.Locate.{sideOf, spanBytes, Ready};
 ghost use Rattle.listing.specs.Turns.{cutTo, rowAt};
 use attribute::Group;
 use attribute::Link;
+use attribute::Stretch;
 use model::Form;
 use model::Range;
-use model::Turn;
 use values::Located;
-use wire::Found;
+use values::Span;
 use wire::cursor::WriteCursor;
 use wire::least;
 
@@ -60,79 +61,58 @@ fn put_lead(
     c.word(out, end)
 }
 
-// The row of an entry whose value is located, where the first value had `size` bytes and there is room for as many.
+// The row of an entry whose value lies at s: `size` bytes of it, behind its lead.
 fn put_value(
     form: Form,
     list: &[[u8; 32]],
     store: &[u8],
     table: &[u8],
-    v: Located,
+    s: Span,
     i: usize,
     end: u16,
     size: usize,
     out: &mut [u8],
     c: WriteCursor,
-) -> Turn
-    requires { ⌜ (i < length (now list)) × Inside (now store) (now table) v ⌝ }
+) -> WriteCursor
+    requires { ⌜ (i < length (now list)) × (s .start + s .len ≤ length (sideOf (now store) (now table) s)) × (size ≤ s .len) ⌝ }
     requires { ⌜ c .len + (size + extraOf form) ≤ length (now out) ⌝ }
     requires { ⌜ (form .group ≡ true → end ≡ groupEndAt (now list) i) ⌝ }
-    ensures { λ r. ⌜ Turned (now (out .entry)) (now (out .exit)) c r (valueTurn form size (entryOf (getD (now (list .entry)) i [])) (entriesOf (drop (i + 1) (now (list .entry)))) (length (now (out .entry)) - c .len) (gotOf (now (store .entry)) (now (table .entry)) v)) ⌝ }
+    ensures { λ r. ⌜ Wrote (now (out .entry)) (now (out .exit)) c r (lead form (entryOf (getD (now (list .entry)) i [])) (entriesOf (drop (i + 1) (now (list .entry)))) ++ take size (spanBytes (now (store .entry)) (now (table .entry)) s)) ⌝ }
 {
-    let Located::Here(s) = v else {
-        return Turn {
-            more: false,
-            cursor: c,
-        };
-    };
-    let n = cut(form, c.available(out), s.len);
-    if n != size {
-        return Turn {
-            more: false,
-            cursor: c,
-        };
-    }
     let c = put_lead(form, list, i, end, out, c);
-    let c = values::inner::append_span(c, out, store, table, s, 0, n);
-    Turn {
-        more: true,
-        cursor: c,
-    }
+    values::inner::append_span(c, out, store, table, s, 0, size)
 }
 
-// A turn at place i; `end` is the end of its group where the form wants it.
-fn turn(
+// The row of the entry at place i, where the first value had `size` bytes; `end` is the end of its group where the form wants it. Nothing is
+// written where the list ends here.
+fn row(
     form: Form,
     list: &[[u8; 32]],
     store: &[u8],
     table: &[u8],
     link: Link,
-    g: Range,
-    uuid: &[u8],
     size: usize,
     i: usize,
     end: u16,
     out: &mut [u8],
     c: WriteCursor,
-) -> Turn
+) -> WriteCursor
     requires { ⌜ (i < length (now list)) × Ready (now list) (length (now store)) (now table) ⌝ }
     requires { ⌜ (c .len ≤ length (now out)) × (size ≤ form .limit) × (form .limit < 256) ⌝ }
     requires { ⌜ (form .group ≡ true → end ≡ groupEndAt (now list) i) ⌝ }
-    ensures { λ r. ⌜ Turned (now (out .entry)) (now (out .exit)) c r (rowAt form link (now (store .entry)) (now (table .entry)) (isWanted (g .start) (g .end) (now (uuid .entry))) size (getD (now (list .entry)) i []) (drop (i + 1) (now (list .entry))) (length (now (out .entry)) - c .len)) ⌝ }
+    ensures { λ r. ⌜ Rowed (now (out .entry)) (now (out .exit)) c r (rowAt form link (now (store .entry)) (now (table .entry)) anyEntry size (getD (now (list .entry)) i []) (drop (i + 1) (now (list .entry))) (length (now (out .entry)) - c .len)) ⌝ }
 {
-    if !attribute::inner::is_wanted(list, i, g.start, g.end, uuid) {
-        return Turn {
-            more: true,
-            cursor: c,
-        };
+    let room = c.available(out);
+    if room < size + extra(form) {
+        return c;
     }
-    if c.available(out) < size + extra(form) {
-        return Turn {
-            more: false,
-            cursor: c,
-        };
+    let Located::Here(s) = values::inner::locate_at(list, table, link, i) else {
+        return c;
+    };
+    if cut(form, room, s.len) != size {
+        return c;
     }
-    let v = values::inner::locate_at(list, table, link, i);
-    put_value(form, list, store, table, v, i, end, size, out, c)
+    put_value(form, list, store, table, s, i, end, size, out, c)
 }
 
 // The group of the entry at place i, where the form wants its end: the one before, as long as it reaches that far.
@@ -143,47 +123,48 @@ fn next_group(form: Form, list: &[[u8; 32]], group: Group, i: usize) -> Group
     if !form.group {
         return group;
     }
-    if i < group.stop {
-        return group;
-    }
-    attribute::inner::group_at(list, i)
+    attribute::inner::next_group(list, group, i)
 }
 
-// The rows from place `first` on.
+// The rows of a stretch: of its entries of the type that is asked for, whose short form has the number `value`.
 fn put_list(
     form: Form,
     list: &[[u8; 32]],
     store: &[u8],
     table: &[u8],
     link: Link,
-    g: Range,
+    p: Stretch,
+    value: u16,
     uuid: &[u8],
     size: usize,
-    first: usize,
     out: &mut [u8],
     c: WriteCursor,
 ) -> WriteCursor
-    requires { ⌜ (first ≤ length (now list)) × Ready (now list) (length (now store)) (now table) ⌝ }
-    requires { ⌜ (c .len ≤ length (now out)) × (size ≤ form .limit) × (form .limit < 256) ⌝ }
-    ensures { λ r. ⌜ Wrote (now (out .entry)) (now (out .exit)) c r (run (rowAt form link (now (store .entry)) (now (table .entry)) (isWanted (g .start) (g .end) (now (uuid .entry))) size) (drop first (now (list .entry))) (length (now (out .entry)) - c .len)) ⌝ }
+    requires { ⌜ (p .from ≤ p .to) × (p .to ≤ length (now list)) × (value ≡ shortOf (now uuid) .value) ⌝ }
+    requires { ⌜ Ready (now list) (length (now store)) (now table) × (c .len ≤ length (now out)) × (size ≤ form .limit) × (form .limit < 256) ⌝ }
+    ensures { λ r. ⌜ Listed (λ want. rowAt form link (now (store .entry)) (now (table .entry)) want size) (isOf (now (uuid .entry))) (now (list .entry)) p (now (out .entry)) (now (out .exit)) c r ⌝ }
 {
     let mut c = c;
-    let mut i = first;
+    let mut i = p.from;
     let mut group = Group { stop: 0, end: 0 };
-    while i < list.len() {
-        group = next_group(form, list, group, i);
-        let e = group.end;
-        let t = turn(form, list, store, table, link, g, uuid, size, i, e, out, c);
-        c = t.cursor;
-        if !t.more {
-            return c;
-        }
+    while i < p.to {
+        let at = i;
         i += 1;
+        if attribute::walk::may_be(list, at, value) {
+            if attribute::inner::is_type(list, at, uuid) {
+                group = next_group(form, list, group, at);
+                let before = c.len;
+                c = row(form, list, store, table, link, size, at, group.end, out, c);
+                if c.len <= before {
+                    return c;
+                }
+            }
+        }
     }
     c
 }
 
-// The answer of either.
+// The answer of either: the first entry in the range that is of the type says how long the values are.
 fn read_by(
     form: Form,
     list: &[[u8; 32]],
@@ -200,9 +181,12 @@ fn read_by(
     if response::range::is_bad(g) {
         return response::inner::error_response(out, 0x08, g.start, 0x01);
     }
-    let Found::At(first) = attribute::lookup::find_wanted(list, 0, g.start, g.end, uuid) else {
+    let short = attribute::walk::short_of(uuid);
+    let p = attribute::walk::stretch(list, g.start, g.end);
+    let first = attribute::walk::find_type(list, p, short, uuid);
+    if p.to <= first {
         return response::inner::error_response(out, form.op, g.start, 0x0A);
-    };
+    }
     match values::inner::locate_at(list, table, link, first) {
         Located::Not(code) => {
             let h = attribute::inner::handle_at(list, first);
@@ -212,7 +196,12 @@ fn read_by(
             let size = cut(form, out.len() - 2, s.len);
             let c = WriteCursor::new().byte(out, form.rsp);
             let c = c.byte(out, (size + extra(form)) as u8);
-            let c = put_list(form, list, store, table, link, g, uuid, size, first, out, c);
+            let q = Stretch {
+                from: first,
+                to: p.to,
+            };
+            let n = short.value;
+            let c = put_list(form, list, store, table, link, q, n, uuid, size, out, c);
             c.len
         }
     }

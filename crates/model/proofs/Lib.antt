@@ -1,4 +1,5 @@
 pub mod Running
+pub mod Along
 pub mod Sending
 pub mod Looking
 pub mod Telling

@@ -7,6 +7,7 @@ use native.Mathlib.Numerals.{add-one}
 use native.Mathlib.Omega.{arith}
 use lib.ListN.{length, getD, drop, length-append, drop-of-length-le}
 use lib.Seq.{sets, drop-cons}
+use borrow.Author.Tests.{lt-ltb, le-ltb}
 use Rattle.wire.specs.Walk.{placeFrom}
 use Rattle.wire.specs.declared.Found.the-variants.{At, Nothing}
 use Rattle.wire.specs.Cursor.{Wrote}
@@ -14,8 +15,7 @@ use Rattle.wire.specs.declared.cursor.WriteCursor.{WriteCursor}
 use Rattle.wire.proofs.Sets.{sets-append}
 use Rattle.wire.proofs.Walk.{placed, none-passes}
 use Rattle.wire.proofs.Written.{wrote-length, wrote-none}
-use Rattle.model.specs.Run.{Chunk, stop, skip, run, fromFirst, Turned}
-use Rattle.model.specs.declared.Turn.{Turn}
+use Rattle.model.specs.Run.{Chunk, stop, skip, put, run, fromFirst, Rowed}
 
 -- the invariant of a list answer's loop: what is still to be written, written, gives what the whole run, written from the first cursor on, gives
 pub record Going {A : Type 0} (turn : A → List A → ℕ → Chunk) (l : List A) (old : List ℕ) (from : WriteCursor) (whole out : List ℕ) (c : WriteCursor) (i : ℕ) : Type 0 where
@@ -52,40 +52,70 @@ module _ {A : Type 0} (turn : A → List A → ℕ → Chunk) (d : A) (l : List 
         let t = rw (none-left i (length out - c .len) h) at (g .total) in
         done out c (g .full) (omega (arith, t)) (omega (arith, t, g .room, g .size)) b
 
-    module _ (h : i < length l) (new : List ℕ) (t : Turn) (m : Turned out new c t (turn (getD l i d) (drop (i + 1) l) (length out - c .len))) where
-      abbrev k : Chunk
-      k = turn (getD l i d) (drop (i + 1) l) (length out - c .len)
+    module _ (h : i < length l) where
+      -- an element that the list goes on without
+      pub going-skip : skip ≡ turn (getD l i d) (drop (i + 1) l) (length out - c .len) → Going turn l old from whole out c (i + 1)
+      going-skip e =
+          let z : (length out - c .len) - 0 ≡ length out - c .len = omega arith in
+          let r = rw (one-turn i (length out - c .len) h, ← e, z) at (g .bytes) in
+          let q = rw (one-turn i (length out - c .len) h, ← e, z) at (g .total) in
+          record { place = omega arith; size = g .size; room = g .room; full = g .full; bytes = r; total = q }
 
-      same : length new ≡ length old
-      same = wrote-length _ _ _ _ _ (m .wrote) ∙ g .size
+      -- an element whose row was written, or ends the list
+      module _ (new : List ℕ) (next : WriteCursor) (m : Rowed out new c next (turn (getD l i d) (drop (i + 1) l) (length out - c .len))) where
+        abbrev k : Chunk
+        k = turn (getD l i d) (drop (i + 1) l) (length out - c .len)
 
-      next-len : t .cursor .len ≡ c .len + length (k .bytes)
-      next-len = ap (λ (x : WriteCursor). x .len) (m .wrote .cursor)
+        same : length new ≡ length old
+        same = wrote-length _ _ _ _ _ (m .wrote) ∙ g .size
 
-      next-full : t .cursor .full ≡ from .full
-      next-full = ap (λ (x : WriteCursor). x .full) (m .wrote .cursor) ∙ g .full
+        next-len : next .len ≡ c .len + length (k .bytes)
+        next-len = ap (λ (x : WriteCursor). x .len) (m .wrote .cursor)
 
-      pub going-stop : t .more ≡ false → Wrote old new from (t .cursor) whole
-      going-stop e =
-          let s : k .more ≡ false = sym (m .more) ∙ e in
-          let r = rw (one-turn i (length out - c .len) h, s, append-nil (k .bytes)) at (g .bytes) in
-          let q = rw (one-turn i (length out - c .len) h, s, append-nil (k .bytes)) at (g .total) in
-          done new (t .cursor) next-full (next-len ∙ q) (omega (arith, q, m .wrote .fits, g .size)) (m .wrote .bytes ∙ r)
+        next-full : next .full ≡ from .full
+        next-full = ap (λ (x : WriteCursor). x .full) (m .wrote .cursor) ∙ g .full
 
-      pub going-more : t .more ≡ true → Going turn l old from whole new (t .cursor) (i + 1)
-      going-more e =
-          let s : k .more ≡ true = sym (m .more) ∙ e in
-          let left : (length out - c .len) - length (k .bytes) ≡ length new - t .cursor .len = omega (arith, same, g .size, next-len) in
-          let r = rw (one-turn i (length out - c .len) h, s, left, ← sets-append (k .bytes), ← m .wrote .bytes, ← next-len) at (g .bytes) in
-          let q = rw (one-turn i (length out - c .len) h, s, left, length-append) at (g .total) in
-          record {
-            place = omega arith;
-            size = same;
-            room = omega (arith, m .wrote .fits, same, g .size, next-len);
-            full = next-full;
-            bytes = r;
-            total = omega (arith, q, next-len);
-          }
+        pub going-stop : next .len ≤ c .len → Wrote old new from next whole
+        going-stop e =
+            let s : k .more ≡ false = sym (m .more) ∙ le-ltb _ _ e in
+            let r = rw (one-turn i (length out - c .len) h, s, append-nil (k .bytes)) at (g .bytes) in
+            let q = rw (one-turn i (length out - c .len) h, s, append-nil (k .bytes)) at (g .total) in
+            done new next next-full (next-len ∙ q) (omega (arith, q, m .wrote .fits, g .size)) (m .wrote .bytes ∙ r)
+
+        pub going-more : c .len < next .len → Going turn l old from whole new next (i + 1)
+        going-more e =
+            let s : k .more ≡ true = sym (m .more) ∙ lt-ltb _ _ e in
+            let left : (length out - c .len) - length (k .bytes) ≡ length new - next .len = omega (arith, same, g .size, next-len) in
+            let r = rw (one-turn i (length out - c .len) h, s, left, ← sets-append (k .bytes), ← m .wrote .bytes, ← next-len) at (g .bytes) in
+            let q = rw (one-turn i (length out - c .len) h, s, left, length-append) at (g .total) in
+            record {
+              place = omega arith;
+              size = same;
+              room = omega (arith, m .wrote .fits, same, g .size, next-len);
+              full = next-full;
+              bytes = r;
+              total = omega (arith, q, next-len);
+            }
+
+  -- the list goes on without all that is left, n elements
+  going-out : (n : ℕ) (old : List ℕ) (from : WriteCursor) (whole out : List ℕ) (c : WriteCursor) (i : ℕ) → i + n ≡ length l
+      → ((j : ℕ) → i ≤ j → j < length l → skip ≡ turn (getD l j d) (drop (j + 1) l) (length out - c .len)) → Going turn l old from whole out c i → Wrote old out from c whole
+  going-out zero old from whole out c i e f g = going-end old from whole out c i g (omega arith)
+  going-out (suc n) old from whole out c i e f g =
+      going-out n old from whole out c (i + 1) (omega arith) (λ j a b. f j (omega arith) b) (going-skip old from whole out c i g (omega arith) (f i (omega arith) (omega arith)))
+
+  pub going-rest : (old : List ℕ) (from : WriteCursor) (whole out : List ℕ) (c : WriteCursor) (i : ℕ) → Going turn l old from whole out c i
+      → ((j : ℕ) → i ≤ j → j < length l → skip ≡ turn (getD l j d) (drop (j + 1) l) (length out - c .len)) → Wrote old out from c whole
+  going-rest old from whole out c i g f = going-out (length l - i) old from whole out c i (omega (arith, g .place)) f g
+
+  -- a run that begins with elements that it goes on without, from place i on, n of them
+  pub run-from : (n i room : ℕ) → i + n ≤ length l → ((j : ℕ) → i ≤ j → j < i + n → skip ≡ turn (getD l j d) (drop (j + 1) l) room) → run turn (drop i l) room ≡ run turn (drop (i + n) l) room
+  run-from zero i room h f = let z : i + 0 ≡ i = omega arith in rw z
+  run-from (suc n) i room h f =
+      let z : room - 0 ≡ room = omega arith in
+      let y : i + suc n ≡ (i + 1) + n = omega arith in
+      let a : run turn (drop i l) room ≡ run turn (drop (i + 1) l) room = rw (one-turn i room (omega arith), ← f i (omega arith) (omega arith), z) in
+      a ∙ rw y (run-from n (i + 1) room (omega arith) (λ j a b. f j (omega arith) (omega arith)))
 
 -- a run over a list of pictures
 pub run-map : {A B : Type 0} (g : A → B) (turn : B → List B → ℕ → Chunk) (l : List A) (room : ℕ) → run turn (map g l) room ≡ run (λ (x : A) (xs : List A). turn (g x) (map g xs)) l room
@@ -95,16 +125,23 @@ run-map g turn (x ∷ l) room =
     let k = turn (g x) (map g l) room in
     ap (λ (r : List ℕ). k .bytes ++ cond (k .more) r []) (run-map g turn l (room - length (k .bytes)))
 
--- a turn that writes nothing, and ends the list or goes on
-module _ (out : List ℕ) (c : WriteCursor) (k : Chunk) (h : c .len ≤ length out) where
-  pub stopped : stop ≡ k → Turned out out c (record { more = false; cursor = c }) k
-  stopped e = rw (← e) (record { more = refl; wrote = wrote-none out c h })
+-- a row that ends the list, and one that was written
+pub row-stopped : (out : List ℕ) (c : WriteCursor) (k : Chunk) → c .len ≤ length out → stop ≡ k → Rowed out out c c k
+row-stopped out c k h e = rw (← e) (record { more = le-ltb (c .len) (c .len) (omega arith); wrote = wrote-none out c h })
 
-  pub skipped : skip ≡ k → Turned out out c (record { more = true; cursor = c }) k
-  skipped e = rw (← e) (record { more = refl; wrote = wrote-none out c h })
+pub row-written : (old new : List ℕ) (c next : WriteCursor) (bs : List ℕ) (k : Chunk) → put bs ≡ k → 0 < length bs → Wrote old new c next bs → Rowed old new c next k
+row-written old new c next bs k e l w =
+    let n : next .len ≡ c .len + length bs = ap (λ (x : WriteCursor). x .len) (w .cursor) in
+    rw (← e) (record { more = lt-ltb (c .len) (next .len) (omega arith); wrote = w })
 
-pub turned-as : (old new : List ℕ) (c : WriteCursor) (t : Turn) (k m : Chunk) → Turned old new c t k → k ≡ m → Turned old new c t m
-turned-as old new c t k m h e = rw e at h
+pub row-as : (old new : List ℕ) (c next : WriteCursor) (k m : Chunk) → Rowed old new c next k → k ≡ m → Rowed old new c next m
+row-as old new c next k m h e = rw e at h
+
+pub row-room : (old new : List ℕ) (c next : WriteCursor) (k : Chunk) → Rowed old new c next k → (length new ≡ length old) × (next .len ≤ length new)
+row-room old new c next k h =
+    let n : next .len ≡ c .len + length (k .bytes) = ap (λ (x : WriteCursor). x .len) (h .wrote .cursor) in
+    let e = wrote-length _ _ _ _ _ (h .wrote) in
+    (e, omega (arith, h .wrote .fits))
 
 -- where a list starts
 module _ {A : Type 0} (p : A → Bool) where

@@ -1,13 +1,13 @@
 -- Laws of responses: from what the cursor wrote to what is sent, and the range test. Assumes nothing.
 use mathlib.Core.Path.{_≡_, refl, ap, _∙_}
-use mathlib.Core.Bool.{true, false}
+use mathlib.Core.Bool.{Bool, true, false}
 use mathlib.Core.List.{List, append-nil}
 use Prim.Native.Nat.{ℕ, _-_, _≤_}
 use native.Mathlib.Omega.{arith}
-use lib.Dec.{ltb}
+use lib.Dec.{eqb, ltb}
 use lib.ListN.{length}
 use lib.Seq.{sets, length-sets, sets-eq, take-append-seam}
-use borrow.Author.Tests.{eq-eqb, ne-eqb}
+use borrow.Author.Tests.{eq-eqb, ne-eqb, eqb-true, eqb-false, ltb-false}
 use Rattle.wire.specs.Cursor.{Wrote}
 use Rattle.wire.specs.declared.cursor.WriteCursor.{WriteCursor}
 use Rattle.model.specs.Answer.{Sent, errorRsp, isBadRange, inRange}
@@ -58,3 +58,13 @@ module _ (g : Range) where
 
   pub good-range : (rsp : List ℕ) → isBadRange g ≡ false → rsp ≡ inRange g rsp
   good-range rsp h = rw h
+
+-- a good range is not backwards
+pub in-order : (g : Range) → isBadRange g ≡ false → g .start ≤ g .end
+in-order g h = by (eqb (g .start) 0) refl
+  where
+    by : (t : Bool) → eqb (g .start) 0 ≡ t → g .start ≤ g .end
+    by true e =
+        let q : _≡_ {A = ℕ} 0 1 = cc (from-zero g (eqb-true _ _ e) ∙ h) in
+        absurd (omega arith)
+    by false e = ltb-false _ _ (not-zero g (eqb-false _ _ e) ∙ h)

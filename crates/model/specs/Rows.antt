@@ -35,6 +35,10 @@ extraOf f = cond (f .group) 4 2
 unfoldable pub cut : Form → ℕ → List ℕ → List ℕ
 cut f room v = take (min (room - extraOf f) (f .limit)) v
 
+-- every entry is wanted
+abbrev pub anyEntry : Entry → Bool
+anyEntry e = true
+
 abbrev pub entriesIn : List Seen → List Entry
 entriesIn l = map (λ (s : Seen). s .entry) l
 

@@ -1,12 +1,15 @@
 -- The list answers as runs of turns: at each element a turn gives bytes, and says whether the list goes on. Assumes nothing.
-use Prim.Native.Nat.{ℕ, _+_, _-_}
+use Prim.Native.Nat.{ℕ, _-_}
 use mathlib.Core.Path.{_≡_}
 use mathlib.Core.Bool.{Bool, true, false, cond}
 use mathlib.Core.List.{List, [], _∷_, _++_}
-use lib.ListN.{length}
+use lib.ListN.{length, drop}
+use lib.Dec.{ltb}
 use Rattle.wire.specs.Cursor.{Wrote}
 use Rattle.wire.specs.declared.cursor.WriteCursor.{WriteCursor}
-use Rattle.model.specs.declared.Turn.{Turn}
+use Rattle.attribute.specs.Record.{Entry}
+use Rattle.attribute.specs.Walk.{Picks}
+use Rattle.attribute.specs.declared.Stretch.{Stretch}
 
 pub record Chunk : Type 0 where
   pub bytes : List ℕ
@@ -34,7 +37,16 @@ module _ {A : Type 0} where
   fromFirst p [] = []
   fromFirst p (x ∷ xs) = cond (p x) (x ∷ xs) (fromFirst p xs)
 
--- what the code of a turn promises: its chunk is written, and it says whether the list goes on
-pub record Turned (old new : List ℕ) (c : WriteCursor) (t : Turn) (k : Chunk) : Type 0 where
-  pub more : t .more ≡ k .more
-  pub wrote : Wrote old new c (t .cursor) (k .bytes)
+-- what the code of a row promises: its chunk is written, and the list goes on where that moved the cursor
+pub record Rowed (old new : List ℕ) (c next : WriteCursor) (k : Chunk) : Type 0 where
+  pub more : ltb (c .len) (next .len) ≡ k .more
+  pub wrote : Wrote old new c next (k .bytes)
+
+-- a turn over the list's records, by the test that says which entries are wanted
+abbrev pub TurnBy : Type 0
+TurnBy = (Entry → Bool) → List ℕ → List (List ℕ) → ℕ → Chunk
+
+-- what the loop of a list answer promises: it writes the rows from a stretch's first place on, for every test that picks the stretch's records by `test`
+abbrev pub Listed : TurnBy → (List ℕ → Bool) → List (List ℕ) → Stretch → List ℕ → List ℕ → WriteCursor → WriteCursor → Type 0
+Listed turn test list p old new c next =
+    (want : Entry → Bool) → Picks want test list (p .from) (p .to) → Wrote old new c next (run (turn want) (drop (p .from) list) (length old - c .len))

@@ -1,5 +1,4 @@
 // What requests ask and what answers are made of. The definitions that the promises cite stand in `specs`.
-use wire::cursor::WriteCursor;
 
 // A range of handles, both ends in it.
 pub struct Range {
@@ -41,12 +40,6 @@ pub struct Form {
     pub op: u8,
     pub rsp: u8,
     pub limit: usize,
-}
-
-// What a turn of a list answer's loop hands back: whether the list goes on, and the cursor.
-pub struct Turn {
-    pub more: bool,
-    pub cursor: WriteCursor,
 }
 
 // What a call of the server answers: refused, by the number that `specs/Told` gives; an ATT code; done; nothing to answer, or no; a value or a response of

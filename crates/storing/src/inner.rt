@@ -110,7 +110,7 @@ pub fn write(
     ensures { λ r. ⌜ (r ≡ writeAt handle offset (length (now (d .entry))) (seenAll link (now (list .entry)) (now (store .entry)) (tableAt (now (tables .entry)) slot)))
         × Left (written link (lent (now (list .entry)) (now (store .entry)) (now (tables .entry))) slot handle offset (now (d .entry))) (now (list .exit)) (now (store .exit)) (now (tables .exit)) ⌝ }
 {
-    let Found::At(i) = attribute::inner::find_listed(list, handle) else {
+    let Found::At(i) = attribute::walk::find_listed(list, handle) else {
         return Access::Denied(0x0A);
     };
     if let Access::Denied(code) = attribute::needs::may_write(

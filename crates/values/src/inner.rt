@@ -66,7 +66,7 @@ pub fn locate(list: &[[u8; 32]], table: &[u8], link: Link, handle: u16) -> Locat
     requires { ⌜ Ascends (now list) × (accepts (now table) ≡ true) ⌝ }
     ensures { λ r. ⌜ r ≡ spanAt link (now (list .entry)) (now (table .entry)) (placeOf (now (list .entry)) handle) ⌝ }
 {
-    let Found::At(i) = attribute::inner::find_listed(list, handle) else {
+    let Found::At(i) = attribute::walk::find_listed(list, handle) else {
         return Located::Not(0x0A);
     };
     locate_at(list, table, link, i)

@@ -8,11 +8,13 @@ use denote.Ref.{now}
 use borrow.Author.Needs.{needs}
 use Rattle.wire.specs.Number.{wordBytes}
 use Rattle.attribute.specs.Lookup.{isWanted}
-use Rattle.model.proofs.Sending.{sent-as, bad-range, good-range}
+use Rattle.attribute.proofs.Walks.{short-word, ordered}
+use Rattle.attribute.proofs.Halves.{ascending}
 use Rattle.model.specs.Rows.{findTurn}
 use Rattle.model.specs.Run.{run}
 use Rattle.model.specs.Answer.{isBadRange}
-use Rattle.finding.proofs.Founds.{find-room, rows-sent, error-sent}
+use Rattle.model.proofs.Sending.{sent-as, bad-range, good-range, in-order}
+use Rattle.finding.proofs.Founds.{find-room, found-rows, rows-sent, error-sent}
 use Rattle.finding.proofs.inner.find_by_type_value.Statement.{statement}
 use Rattle.finding.proofs.inner.find_by_type_value.Tie as tie
 
@@ -23,12 +25,8 @@ good c = sym (c .before .is-bad .ensures) ∙ c .if1 .left
 -- the rows that the loop writes, by the room that is left
 abbrev rows : tie.After-put-found → ℕ → List ℕ
 rows c =
-    run
-    (findTurn
-    (now (c .before .before .before .before .before .before .before .before .before .before .before .before .before .args .store))
-    (isWanted (c .before .before .before .before .before .before .before .before .before .before .before .before .before .args .g .start) (c .before .before .before .before .before .before .before .before .before .before .before .before .before .args .g .end) (wordBytes (c .before .before .before .before .before .before .before .before .before .before .before .before .before .args .uuid)))
-    (now (c .before .before .before .before .before .before .before .before .before .before .before .before .before .args .d)))
-    (now (c .before .before .before .before .before .before .before .before .before .before .before .before .before .args .list))
+    let a = c .before .before .before .before .before .before .before .before .before .before .before .before .before .before .args in
+    run (findTurn (now (a .store)) (isWanted (a .g .start) (a .g .end) (wordBytes (a .uuid))) (now (a .d))) (now (a .list))
 
 is-bad-requires : tie.Need-is-bad-requires
 is-bad-requires c κs = search needs
@@ -50,22 +48,29 @@ new-requires c κs = search needs
 byte-requires : tie.Need-byte-requires
 byte-requires c κs = search needs
 
-cast-t17 : tie.Need-cast-t17
-cast-t17 c = search needs
+cast-t18 : tie.Need-cast-t18
+cast-t18 c = search needs
 
-cast-t19 : tie.Need-cast-t19
-cast-t19 c = search needs
+cast-t20 : tie.Need-cast-t20
+cast-t20 c = search needs
+
+stretch-requires : tie.Need-stretch-requires
+stretch-requires c κs = ascending _ _ (c .before .before .before .before .before .before .before .before .before .before .pre .0)
 
 slice-aggregate-put-found : tie.Need-slice-aggregate-put-found
 slice-aggregate-put-found c = search needs
 
 put-found-requires : tie.Need-put-found-requires
 put-found-requires c κs = (
-  c .before .before .before .before .before .before .before .before .before .before .before .before .pre .0,
-  find-room _ _ _ _ (omega (arith, c .before .before .before .before .before .before .before .before .before .before .before .before .pre .1))
-      (c .before .before .before .before .before .before .new .ensures .0)
-      (c .before .before .before .before .byte .ensures .0)
-      (c .before .before .before .before .byte .ensures .1),
+  (
+    ordered _ _ _ _ (c .before .before .stretch .ensures .0) (c .before .before .stretch .ensures .1) (in-order _ (good (c .before .before .before .before .before .before .before .before))),
+    c .before .before .stretch .ensures .1 .inside,
+    short-word _,
+  ),
+  (
+    c .before .before .before .before .before .before .before .before .before .before .before .before .before .pre .0,
+    find-room _ _ _ _ (omega (arith, c .before .before .before .before .before .before .before .before .before .before .before .before .before .pre .1)) (c .before .before .before .before .before .before .before .new .ensures .0) (c .before .before .before .before .before .byte .ensures .0) (c .before .before .before .before .before .byte .ensures .1),
+  ),
 )
 
 error-response-requires-2 : tie.Need-error-response-requires-2
@@ -77,14 +82,14 @@ same-length-2 c = search needs
 returns-2 : tie.Need-returns-2
 returns-2 c =
     sent-as _ _ _ _ _
-    (error-sent _ _ _ _ _ _ _ (rows (c .before .before .before .before .before .before .before .before)) (omega (arith, c .before .before .before .before .before .before .before .before .before .before .before .before .before .before .before .before .before .before .before .before .before .pre .1))
-    (c .before .before .before .before .before .before .before .before .before .before .before .before .before .before .before .new .ensures .0)
-    (c .before .before .before .before .before .before .before .before .before .before .before .before .before .byte .ensures .0)
-    (c .before .before .before .before .before .before .before .before .before .before .before .before .before .byte .ensures .1)
-    (c .before .before .before .before .before .before .before .before .put-found .ensures)
+    (error-sent _ _ _ _ _ _ _ (rows (c .before .before .before .before .before .before .before .before)) (omega (arith, c .before .before .before .before .before .before .before .before .before .before .before .before .before .before .before .before .before .before .before .before .before .before .pre .1))
+    (c .before .before .before .before .before .before .before .before .before .before .before .before .before .before .before .before .new .ensures .0)
+    (c .before .before .before .before .before .before .before .before .before .before .before .before .before .before .byte .ensures .0)
+    (c .before .before .before .before .before .before .before .before .before .before .before .before .before .before .byte .ensures .1)
+    (found-rows _ _ _ _ _ _ _ (c .before .before .before .before .before .before .before .before .before .before .before .stretch .ensures .0) (c .before .before .before .before .before .before .before .before .before .before .before .stretch .ensures .1) _ _ _ _ (c .before .before .before .before .before .before .before .before .put-found .ensures))
     (c .before .before .before .before .if2 .taken) _ _
     (c .before .before .error-response2 .ensures))
-    (good-range _ _ (good (c .before .before .before .before .before .before .before .before .before .before .before .before .before .before .before .before)))
+    (good-range _ _ (good (c .before .before .before .before .before .before .before .before .before .before .before .before .before .before .before .before .before)))
 
 same-length-3 : tie.Need-same-length-3
 same-length-3 c = search needs
@@ -92,13 +97,13 @@ same-length-3 c = search needs
 returns-3 : tie.Need-returns-3
 returns-3 c =
     sent-as _ _ _ _ _
-    (rows-sent _ _ _ _ _ _ _ (rows (c .before .before .before .before)) (omega (arith, c .before .before .before .before .before .before .before .before .before .before .before .before .before .before .before .before .before .pre .1))
-    (c .before .before .before .before .before .before .before .before .before .before .before .new .ensures .0)
-    (c .before .before .before .before .before .before .before .before .before .byte .ensures .0)
-    (c .before .before .before .before .before .before .before .before .before .byte .ensures .1)
-    (c .before .before .before .before .put-found .ensures)
+    (rows-sent _ _ _ _ _ _ _ (rows (c .before .before .before .before)) (omega (arith, c .before .before .before .before .before .before .before .before .before .before .before .before .before .before .before .before .before .before .pre .1))
+    (c .before .before .before .before .before .before .before .before .before .before .before .before .new .ensures .0)
+    (c .before .before .before .before .before .before .before .before .before .before .byte .ensures .0)
+    (c .before .before .before .before .before .before .before .before .before .before .byte .ensures .1)
+    (found-rows _ _ _ _ _ _ _ (c .before .before .before .before .before .before .before .stretch .ensures .0) (c .before .before .before .before .before .before .before .stretch .ensures .1) _ _ _ _ (c .before .before .before .before .put-found .ensures))
     (c .if2 .left))
-    (good-range _ _ (good (c .before .before .before .before .before .before .before .before .before .before .before .before)))
+    (good-range _ _ (good (c .before .before .before .before .before .before .before .before .before .before .before .before .before)))
 
 pub find-by-type-value-spec : {M : Type 1} → statement M
 find-by-type-value-spec =
@@ -110,8 +115,9 @@ find-by-type-value-spec =
     returns
     new-requires
     byte-requires
-    cast-t17
-    cast-t19
+    cast-t18
+    cast-t20
+    stretch-requires
     slice-aggregate-put-found
     put-found-requires
     error-response-requires-2

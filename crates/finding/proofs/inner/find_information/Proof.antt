@@ -1,19 +1,17 @@
--- `finding::inner::find_information` meets its contract. A bad range, no entry in it, or the rows from the first entry on. Assumes nothing.
+-- `finding::inner::find_information` meets its contract. A bad range, no entry in it, or the rows of its stretch. Assumes nothing.
 use mathlib.Core.Path.{_≡_, ap, sym, _∙_}
 use mathlib.Core.Bool.{false}
-use mathlib.Core.List.{List, []}
-use Prim.Native.Nat.{ℕ, _<_}
+use mathlib.Core.List.{List}
+use Prim.Native.Nat.{ℕ}
 use native.Mathlib.Omega.{arith}
 use lib.ListN.{length, drop}
 use denote.Ref.{now}
 use borrow.Author.Needs.{needs}
-use Rattle.wire.specs.declared.Found.the-variants.{At}
-use Rattle.wire.specs.Walk.{placeFrom}
-use Rattle.wire.proofs.Walk.{placed}
-use Rattle.attribute.specs.Lookup.{recorded, isWithin}
-use Rattle.model.proofs.Sending.{sent-as, bad-range, good-range}
+use Rattle.attribute.specs.Lookup.{isWithin}
+use Rattle.attribute.proofs.Walks.{picks-all, first-within, none-within}
 use Rattle.model.specs.Run.{run}
 use Rattle.model.specs.Answer.{isBadRange}
+use Rattle.model.proofs.Sending.{sent-as, bad-range, good-range}
 use Rattle.finding.specs.Turns.{infoAt}
 use Rattle.finding.proofs.Infos.{info-room, uuid-short, none-found, first-found, info-sent}
 use Rattle.finding.proofs.inner.find_information.Statement.{statement}
@@ -23,19 +21,11 @@ use Rattle.finding.proofs.inner.find_information.Tie as tie
 good : (c : tie.Else1) → isBadRange (c .before .before .before .args .g) ≡ false
 good c = sym (c .before .is-bad .ensures) ∙ c .if1 .left
 
--- the place that was found
-place : (c : tie.After-first) → placeFrom (recorded (isWithin (c .before .before .before .before .before .before .args .g .start) (c .before .before .before .before .before .before .args .g .end))) (now (c .before .before .before .before .before .before .args .list)) 0 ≡ At (c .first .given .0 .0)
-place c = sym (c .before .before .find-within .ensures) ∙ c .first .given .1
-
-inside : (c : tie.After-first) → c .first .given .0 .0 < length (now (c .before .before .before .before .before .before .args .list))
-inside c = placed _ [] (now (c .before .before .before .before .before .before .args .list)) 0 _ (place c) .inside
-
 -- the rows that the loop writes, by the room that is left
 abbrev rows : tie.After-put-infos → ℕ → List ℕ
 rows c =
-    run
-    (infoAt (isWithin (c .before .before .before .before .before .before .before .before .before .before .before .before .before .before .before .before .before .before .before .before .before .before .args .g .start) (c .before .before .before .before .before .before .before .before .before .before .before .before .before .before .before .before .before .before .before .before .before .before .args .g .end)) (length (now (c .before .before .before .before .before .before .before .before .before .before .before .before .uuid .result))))
-    (drop (c .before .before .before .before .before .before .before .before .before .before .before .before .before .before .before .before .first .given .0 .0) (now (c .before .before .before .before .before .before .before .before .before .before .before .before .before .before .before .before .before .before .before .before .before .before .args .list)))
+    let a = c .before .before .before .before .before .before .before .before .before .before .before .before .before .before .before .before .before .before .before .before .before .args in
+    run (infoAt (isWithin (a .g .start) (a .g .end)) (length (now (c .before .before .before .before .before .before .before .before .before .before .before .before .uuid .result)))) (drop (c .before .before .before .before .before .before .before .before .before .before .before .before .before .before .before .before .before .stretch .result .from) (now (a .list)))
 
 is-bad-requires : tie.Need-is-bad-requires
 is-bad-requires c κs = search needs
@@ -51,14 +41,8 @@ returns c =
     sent-as _ _ _ _ _ (c .before .before .error-response .ensures)
     (bad-range _ _ (sym (c .before .before .before .before .before .is-bad .ensures) ∙ c .before .before .before .before .if1 .taken))
 
-find-within-requires : tie.Need-find-within-requires
-find-within-requires c κs = search needs
-
-enum-known-first : tie.Need-enum-known-first
-enum-known-first c = search needs
-
-enum-told : tie.Need-enum-told
-enum-told c = search needs
+stretch-requires : tie.Need-stretch-requires
+stretch-requires c κs = search needs
 
 error-response-requires-2 : tie.Need-error-response-requires-2
 error-response-requires-2 c κs = search needs
@@ -69,14 +53,14 @@ same-length-2 c = search needs
 returns-2 : tie.Need-returns-2
 returns-2 c =
     sent-as _ _ _ _ _ (c .before .before .error-response2 .ensures)
-    (none-found _ _ _ _ (sym (c .before .before .before .before .before .before .find-within .ensures) ∙ c .before .before .before .before .enum-told .given .1)
+    (none-found _ _ _ _ (none-within _ _ _ _ (c .before .before .before .before .before .before .stretch .ensures .0) (c .before .before .before .before .before .before .stretch .ensures .1) (c .before .before .before .before .if2 .taken))
     ∙ good-range _ _ (good (c .before .before .before .before .before .before .before)))
 
 mul-uuid : tie.Need-mul-uuid
-mul-uuid c = omega (arith, inside (c .before))
+mul-uuid c = search needs
 
 shared-slice-element-uuid : tie.Need-shared-slice-element-uuid
-shared-slice-element-uuid c = inside (c .before)
+shared-slice-element-uuid c = search needs
 
 uuid-requires : tie.Need-uuid-requires
 uuid-requires c κs = search needs
@@ -95,8 +79,9 @@ byte-requires-2 c κs = search needs
 
 put-infos-requires : tie.Need-put-infos-requires
 put-infos-requires c κs = (
-  omega (arith, inside (c .before .before .before .before .before .before .before .before .before .before .before .before .before .before .before)),
-  info-room _ _ _ _ _ _ _ (omega (arith, c .before .before .before .before .before .before .before .before .before .before .before .before .before .before .before .before .before .before .before .before .before .pre))
+  omega (arith, c .before .before .before .before .before .before .before .before .before .before .before .before .before .before .if2 .left),
+  c .before .before .before .before .before .before .before .before .before .before .before .before .before .before .before .before .stretch .ensures .1 .inside,
+  info-room _ _ _ _ _ _ _ (omega (arith, c .before .before .before .before .before .before .before .before .before .before .before .before .before .before .before .before .before .before .before .before .pre .1))
       (c .before .before .before .before .before .before .before .before .before .before .new .ensures .0)
       (c .before .before .before .before .before .before .before .before .byte .ensures .0)
       (c .before .before .before .before .before .before .before .before .byte .ensures .1)
@@ -110,16 +95,16 @@ same-length-3 c = search needs
 
 returns-3 : tie.Need-returns-3
 returns-3 c =
-    info-sent _ _ _ _ _ _ _ (omega (arith, c .before .before .before .before .before .before .before .before .before .before .before .before .before .before .before .before .before .before .before .before .before .before .before .before .pre))
+    info-sent _ _ _ _ _ _ _ (omega (arith, c .before .before .before .before .before .before .before .before .before .before .before .before .before .before .before .before .before .before .before .before .before .before .before .pre .1))
     (c .before .before .before .before .before .before .before .before .before .before .before .before .before .new .ensures .0)
     (c .before .before .before .before .before .before .before .before .before .before .before .byte .ensures .0)
     (c .before .before .before .before .before .before .before .before .before .before .before .byte .ensures .1)
     (c .before .before .before .before .before .before .byte2 .ensures .0)
     (c .before .before .before .before .before .before .byte2 .ensures .1) _ _ _ (rows (c .before .before))
-    (c .before .before .put-infos .ensures)
+    (c .before .before .put-infos .ensures _ (picks-all _ _ _ _ (c .before .before .before .before .before .before .before .before .before .before .before .before .before .before .before .before .before .before .before .stretch .ensures .0) (c .before .before .before .before .before .before .before .before .before .before .before .before .before .before .before .before .before .before .before .stretch .ensures .1)))
     (rw (c .before .before .before .before .before .before .before .format .ensures)
-    (first-found _ _ _ _ _ _ (place (c .before .before .before .before .before .before .before .before .before .before .before .before .before .before .before .before .before .before)) (ap length (c .before .before .before .before .before .before .before .before .before .before .before .before .before .before .uuid .ensures))
-    ∙ good-range _ _ (good (c .before .before .before .before .before .before .before .before .before .before .before .before .before .before .before .before .before .before .before .before .before))))
+    (first-found _ _ _ _ _ _ (first-within _ _ _ _ (c .before .before .before .before .before .before .before .before .before .before .before .before .before .before .before .before .before .before .before .stretch .ensures .0) (c .before .before .before .before .before .before .before .before .before .before .before .before .before .before .before .before .before .before .before .stretch .ensures .1) (c .before .before .before .before .before .before .before .before .before .before .before .before .before .before .before .before .before .if2 .left)) (ap length (c .before .before .before .before .before .before .before .before .before .before .before .before .before .before .uuid .ensures))
+    ∙ good-range _ _ (good (c .before .before .before .before .before .before .before .before .before .before .before .before .before .before .before .before .before .before .before .before))))
 
 pub find-information-spec : {M : Type 1} → statement M
 find-information-spec =
@@ -129,9 +114,7 @@ find-information-spec =
     error-response-requires
     same-length
     returns
-    find-within-requires
-    enum-known-first
-    enum-told
+    stretch-requires
     error-response-requires-2
     same-length-2
     returns-2

@@ -1,55 +1,98 @@
--- `finding::inner::put_found` meets its contract. The loop, by the laws of `Going` and of the group met last. Assumes nothing.
-use mathlib.Core.List.{[]}
+-- `finding::inner::put_found` meets its contract. The loop, by the laws of `Along` and of the group met last. Assumes nothing.
+use mathlib.Core.Path.{sym, _∙_}
+use mathlib.Core.Bool.{Bool}
 use Prim.Native.Nat.{_-_}
 use native.Mathlib.Omega.{arith}
-use lib.ListN.{length}
-use borrow.Author.Tests.{not-true, not-false}
 use borrow.Author.Needs.{needs}
-use Rattle.attribute.specs.Lookup.{isWanted, InGroup}
+use Rattle.attribute.specs.Record.{Entry}
+use Rattle.attribute.specs.Walk.{isOf}
+use Rattle.attribute.specs.Lookup.{InGroup}
 use Rattle.attribute.proofs.Entries.{no-group, group-here, group-later}
-use Rattle.model.proofs.Running.{Going, going-start, going-more, going-stop, going-end}
-use Rattle.model.specs.Run.{run}
+use Rattle.attribute.proofs.Walks.{may-not}
 use Rattle.model.specs.Rows.{findTurn}
+use Rattle.model.proofs.Along.{Along, along-start, along-skip, along-more, along-stop, along-end}
+use Rattle.finding.proofs.Founds.{found-as, found-other, found-skip}
 use Rattle.finding.proofs.inner.put_found.Statement.{statement}
 use Rattle.finding.proofs.inner.put_found.Tie as tie
 
 abbrev Inv-loop : tie.InvT-loop
-Inv-loop list store g uuid d out₀ c₀ i₀ group₀ out c i group =
-    let turn = findTurn store (isWanted (g .start) (g .end) uuid) d in
-    Going turn list out₀ c₀ (run turn list (length out₀ - c₀ .len)) out c i × InGroup list i group
+Inv-loop list store p value uuid d out₀ c₀ i₀ group₀ out c i group =
+    Along (λ (want : Entry → Bool). findTurn store want d) (isOf uuid) list p out₀ c₀ out c i × InGroup list i group
 
 abbrev μ-loop : tie.MeasureT-loop
-μ-loop list store g uuid d out₀ c₀ i₀ group₀ out c i group = length list - i
+μ-loop list store p value uuid d out₀ c₀ i₀ group₀ out c i group = p .to - i
 
 loop-holds : tie.Need-loop-holds Inv-loop μ-loop
-loop-holds c = (going-start _ [] _ _ _ 0 (omega arith) (c .before .before .before .before .pre .1), no-group (c .before .before .before .before .args .list .now) _)
+loop-holds c = (
+  along-start _ _ _ _ _ _ (c .before .before .before .before .pre .0 .0) (c .before .before .before .before .pre .0 .1) (c .before .before .before .before .pre .1 .1),
+  no-group (c .before .before .before .before .args .list .now) _,
+)
+
+add-i : tie.Need-add-i Inv-loop μ-loop
+add-i c = omega arith
+
+may-be-requires : tie.Need-may-be-requires Inv-loop μ-loop
+may-be-requires c κs = omega arith
+
+is-found-requires : tie.Need-is-found-requires Inv-loop μ-loop
+is-found-requires c κs = (omega arith, c .before .before .before .before .before .before .before .before .before .pre .1 .0)
 
 next-group-requires : tie.Need-next-group-requires Inv-loop μ-loop
-next-group-requires c κs = (c .loop-test .taken, c .before .loop .inv .1)
+next-group-requires c κs = (omega arith, c .before .before .before .before .before .before .loop .inv .1)
 
-find-turn-requires : tie.Need-find-turn-requires Inv-loop μ-loop
-find-turn-requires c κs = (c .before .before .loop-test .taken, c .before .before .before .before .before .before .before .before .pre .0, c .before .before .before .loop .inv .0 .room, group-here (c .before .before .before .before .before .before .before .before .args .list .now) _ _ (c .before .next-group .ensures .0) (c .before .next-group .ensures .1))
+found-row-requires : tie.Need-found-row-requires Inv-loop μ-loop
+found-row-requires c κs = (
+  omega arith,
+  c .before .before .before .before .before .before .before .before .loop .inv .0 .room,
+  group-here (c .before .before .before .before .before .before .before .before .before .before .before .before .before .args .list .now) _ _ (c .before .next-group .ensures .0) (c .before .next-group .ensures .1),
+)
 
 same-length : tie.Need-same-length Inv-loop μ-loop
 same-length c = search needs
 
 returns : tie.Need-returns Inv-loop μ-loop
-returns c = going-stop _ [] _ _ _ _ _ _ _ (c .before .before .before .before .before .before .before .before .before .loop .inv .0) (c .before .before .before .before .before .before .before .before .loop-test .taken) _ _ (c .before .before .before .before .before .find-turn .ensures) (not-true _ (c .if1 .taken))
-
-add-i : tie.Need-add-i Inv-loop μ-loop
-add-i c = omega arith
+returns c =
+    along-stop _ _ _ _ _ _ _ _ _ (c .before .before .before .before .before .before .before .before .before .before .before .before .before .loop .inv .0) (c .before .before .before .before .before .before .before .before .before .before .before .if1 .taken) _ _ _ (c .before .before .before .before .found-row .ensures)
+    (λ want w. found-as _ _ want _ _ _ _ (sym (c .before .before .before .before .before .before .before .before .is-found .ensures) ∙ c .before .before .before .before .before .before .before .if3 .taken) w)
+    (c .if4 .taken)
 
 loop-less : tie.Need-loop-less Inv-loop μ-loop
 loop-less c = omega arith
 
 loop-again : tie.Need-loop-again Inv-loop μ-loop
-loop-again c = (going-more _ [] _ _ _ _ _ _ _ (c .before .before .before .before .before .before .before .before .before .loop .inv .0) (c .before .before .before .before .before .before .before .before .loop-test .taken) _ _ (c .before .before .before .before .before .find-turn .ensures) (not-false _ (c .if1 .left)), group-later (c .before .before .before .before .before .before .before .before .before .before .before .before .before .before .args .list .now) _ _ (c .before .before .before .before .before .before .before .next-group .ensures .1))
+loop-again c = (
+  along-more _ _ _ _ _ _ _ _ _ (c .before .before .before .before .before .before .before .before .before .before .before .before .before .loop .inv .0) (c .before .before .before .before .before .before .before .before .before .before .before .if1 .taken) _ _ _ (c .before .before .before .before .found-row .ensures)
+      (λ want w. found-as _ _ want _ _ _ _ (sym (c .before .before .before .before .before .before .before .before .is-found .ensures) ∙ c .before .before .before .before .before .before .before .if3 .taken) w)
+      (c .if4 .left),
+  group-later (c .before .before .before .before .before .before .before .before .before .before .before .before .before .before .before .before .before .before .args .list .now) _ _ (c .before .before .before .before .before .before .next-group .ensures .1),
+)
+
+loop-less-2 : tie.Need-loop-less-2 Inv-loop μ-loop
+loop-less-2 c = omega arith
+
+loop-again-2 : tie.Need-loop-again-2 Inv-loop μ-loop
+loop-again-2 c = (
+  along-skip _ _ _ _ _ _ _ _ _ (c .before .before .before .before .before .before .loop .inv .0) (c .before .before .before .before .if1 .taken)
+      (λ want w. found-other _ _ want _ _ _ _ (sym (c .before .is-found .ensures) ∙ c .if3 .left) w),
+  group-later (c .before .before .before .before .before .before .before .before .before .before .before .args .list .now) _ _ (c .before .before .before .before .before .before .loop .inv .1),
+)
+
+loop-less-3 : tie.Need-loop-less-3 Inv-loop μ-loop
+loop-less-3 c = omega arith
+
+loop-again-3 : tie.Need-loop-again-3 Inv-loop μ-loop
+loop-again-3 c = (
+  along-skip _ _ _ _ _ _ _ _ _ (c .before .before .before .before .loop .inv .0) (c .before .before .if1 .taken)
+      (λ want w. found-skip _ _ want _ _ _ (w ∙ may-not _ _ _ (c .before .may-be .ensures .1) (c .before .before .before .before .before .before .before .before .before .pre .0 .2) (sym (c .before .may-be .ensures .0) ∙ c .if2 .left))),
+  group-later (c .before .before .before .before .before .before .before .before .before .args .list .now) _ _ (c .before .before .before .before .loop .inv .1),
+)
 
 same-length-2 : tie.Need-same-length-2 Inv-loop μ-loop
 same-length-2 c = search needs
 
 returns-2 : tie.Need-returns-2 Inv-loop μ-loop
-returns-2 c = going-end _ [] _ _ _ _ _ _ _ (c .before .loop .inv .0) (c .loop-test .left)
+returns-2 c =
+    along-end _ _ _ _ _ _ _ _ _ (c .before .before .loop .inv .0) (c .if1 .left) (λ want r rs room w. found-skip _ _ want r rs room w)
 
 pub put-found-spec : {M : Type 1} → statement M
 put-found-spec =
@@ -58,12 +101,18 @@ put-found-spec =
     Inv-loop
     μ-loop
     loop-holds
+    add-i
+    may-be-requires
+    is-found-requires
     next-group-requires
-    find-turn-requires
+    found-row-requires
     same-length
     returns
-    add-i
     loop-less
     loop-again
+    loop-less-2
+    loop-again-2
+    loop-less-3
+    loop-again-3
     same-length-2
     returns-2)

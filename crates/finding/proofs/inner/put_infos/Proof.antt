@@ -1,36 +1,36 @@
--- `finding::inner::put_infos` meets its contract. The loop, by the laws of `Going`. Assumes nothing.
-use mathlib.Core.List.{[]}
+-- `finding::inner::put_infos` meets its contract. The loop, by the laws of `Along`. Assumes nothing.
+use mathlib.Core.Bool.{Bool}
 use Prim.Native.Nat.{_-_}
 use native.Mathlib.Omega.{arith}
-use lib.ListN.{length, drop}
-use borrow.Author.Tests.{not-true, not-false}
 use borrow.Author.Needs.{needs}
-use Rattle.attribute.specs.Lookup.{isWithin}
-use Rattle.model.proofs.Running.{Going, going-start, going-more, going-stop, going-end}
-use Rattle.model.specs.Run.{run}
+use Rattle.attribute.specs.Record.{Entry}
+use Rattle.attribute.specs.Walk.{anyRecord}
 use Rattle.finding.specs.Turns.{infoAt}
+use Rattle.model.proofs.Along.{Along, along-start, along-more, along-stop, along-end}
+use Rattle.finding.proofs.Infos.{info-as, info-skip}
 use Rattle.finding.proofs.inner.put_infos.Statement.{statement}
 use Rattle.finding.proofs.inner.put_infos.Tie as tie
 
 abbrev Inv-loop : tie.InvT-loop
-Inv-loop list g size first out₀ c₀ i₀ out c i =
-    let turn = infoAt (isWithin (g .start) (g .end)) size in
-    Going turn list out₀ c₀ (run turn (drop first list) (length out₀ - c₀ .len)) out c i
+Inv-loop list p size out₀ c₀ i₀ out c i = Along (λ (want : Entry → Bool). infoAt want size) anyRecord list p out₀ c₀ out c i
 
 abbrev μ-loop : tie.MeasureT-loop
-μ-loop list g size first out₀ c₀ i₀ out c i = length list - i
+μ-loop list p size out₀ c₀ i₀ out c i = p .to - i
 
 loop-holds : tie.Need-loop-holds Inv-loop μ-loop
-loop-holds c = going-start _ [] _ _ _ _ (c .before .pre .0) (c .before .pre .1)
+loop-holds c = along-start _ _ _ _ _ _ (c .before .pre .0) (c .before .pre .1) (c .before .pre .2)
 
-info-turn-requires : tie.Need-info-turn-requires Inv-loop μ-loop
-info-turn-requires c κs = (omega arith, c .before .before .loop .inv .room, c .before .before .before .before .pre .2)
+info-row-requires : tie.Need-info-row-requires Inv-loop μ-loop
+info-row-requires c κs = omega arith
 
 same-length : tie.Need-same-length Inv-loop μ-loop
 same-length c = search needs
 
 returns : tie.Need-returns Inv-loop μ-loop
-returns c = going-stop _ [] _ _ _ _ _ _ _ (c .before .before .before .before .before .before .before .before .loop .inv) (c .before .before .before .before .before .before .before .loop-test .taken) _ _ (c .before .before .before .before .before .info-turn .ensures) (not-true _ (c .if1 .taken))
+returns c =
+    along-stop _ _ _ _ _ _ _ _ _ (c .before .before .before .before .before .before .before .before .loop .inv) (c .before .before .before .before .before .before .if1 .taken) _ _ _ (c .before .before .before .before .info-row .ensures)
+    (λ want w. info-as _ want _ _ _ w)
+    (c .if2 .taken)
 
 add-i : tie.Need-add-i Inv-loop μ-loop
 add-i c = omega arith
@@ -39,13 +39,17 @@ loop-less : tie.Need-loop-less Inv-loop μ-loop
 loop-less c = omega arith
 
 loop-again : tie.Need-loop-again Inv-loop μ-loop
-loop-again c = going-more _ [] _ _ _ _ _ _ _ (c .before .before .before .before .before .before .before .before .loop .inv) (c .before .before .before .before .before .before .before .loop-test .taken) _ _ (c .before .before .before .before .before .info-turn .ensures) (not-false _ (c .if1 .left))
+loop-again c =
+    along-more _ _ _ _ _ _ _ _ _ (c .before .before .before .before .before .before .before .before .loop .inv) (c .before .before .before .before .before .before .if1 .taken) _ _ _ (c .before .before .before .before .info-row .ensures)
+    (λ want w. info-as _ want _ _ _ w)
+    (c .if2 .left)
 
 same-length-2 : tie.Need-same-length-2 Inv-loop μ-loop
 same-length-2 c = search needs
 
 returns-2 : tie.Need-returns-2 Inv-loop μ-loop
-returns-2 c = going-end _ [] _ _ _ _ _ _ _ (c .before .loop .inv) (c .loop-test .left)
+returns-2 c =
+    along-end _ _ _ _ _ _ _ _ _ (c .before .before .loop .inv) (c .if1 .left) (λ want r rs room w. info-skip _ want r _ room w)
 
 pub put-infos-spec : {M : Type 1} → statement M
 put-infos-spec =
@@ -54,7 +58,7 @@ put-infos-spec =
     Inv-loop
     μ-loop
     loop-holds
-    info-turn-requires
+    info-row-requires
     same-length
     returns
     add-i

@@ -1,57 +1,74 @@
--- `listing::inner::put_list` meets its contract. The loop, by the laws of `Going` and of the group met last. Assumes nothing.
-use mathlib.Core.Path.{_≡_}
+-- `listing::inner::put_list` meets its contract. The loop, by the laws of `Along` and of the group met last. Assumes nothing.
+use mathlib.Core.Path.{_≡_, sym, _∙_}
 use mathlib.Core.Bool.{true}
-use mathlib.Core.List.{[]}
-use Prim.Native.Nat.{_-_}
-use lib.ListN.{length, drop}
-use borrow.Author.Tests.{not-true, not-false}
-use Rattle.listing.specs.Turns.{rowAt}
-use Rattle.attribute.specs.Lookup.{isWanted, InGroup}
-use Rattle.attribute.proofs.Entries.{no-group, group-here, group-later}
-use Rattle.model.specs.Run.{run}
-use Rattle.model.proofs.Running.{Going, going-start, going-more, going-stop, going-end}
-use borrow.Author.Needs.{needs}
+use Prim.Native.Nat.{_+_, _-_}
 use native.Mathlib.Omega.{arith}
+use lib.ListN.{length, drop}
+use borrow.Author.Needs.{needs}
+use Rattle.attribute.specs.Lookup.{InGroup}
+use Rattle.attribute.specs.Walk.{isOf}
+use Rattle.attribute.proofs.Entries.{no-group, group-here, group-later}
+use Rattle.attribute.proofs.Walks.{may-not}
+use Rattle.model.proofs.Along.{Along, along-start, along-skip, along-more, along-stop, along-end}
+use Rattle.listing.specs.Turns.{rowAt}
+use Rattle.listing.proofs.Lists.{turn-skip, turn-any}
 use Rattle.listing.proofs.inner.put_list.Statement.{statement}
 use Rattle.listing.proofs.inner.put_list.Tie as tie
 
 abbrev Inv-loop : tie.InvT-loop
-Inv-loop form list store table link g uuid size first out₀ c₀ i₀ group₀ out c i group =
-    let turn = rowAt form link store table (isWanted (g .start) (g .end) uuid) size in
-    Going turn list out₀ c₀ (run turn (drop first list) (length out₀ - c₀ .len)) out c i × (form .group ≡ true → InGroup list i group)
+Inv-loop form list store table link p value uuid size out₀ c₀ i₀ group₀ out c i group =
+    Along (λ want. rowAt form link store table want size) (isOf uuid) list p out₀ c₀ out c i × (form .group ≡ true → InGroup list i group)
 
 abbrev μ-loop : tie.MeasureT-loop
-μ-loop form list store table link g uuid size first out₀ c₀ i₀ group₀ out c i group = length list - i
+μ-loop form list store table link p value uuid size out₀ c₀ i₀ group₀ out c i group = p .to - i
 
 loop-holds : tie.Need-loop-holds Inv-loop μ-loop
-loop-holds c = (going-start _ [] _ _ _ _ (c .before .before .before .before .pre .0 .0) (c .before .before .before .before .pre .1 .0), λ t. no-group (c .before .before .before .before .args .list .now) _)
+loop-holds c = (along-start _ _ _ _ _ _ (c .before .before .before .before .pre .0 .0) (c .before .before .before .before .pre .0 .1) (c .before .before .before .before .pre .1 .1), λ t. no-group (c .before .before .before .before .args .list .now) _)
+
+add-i : tie.Need-add-i Inv-loop μ-loop
+add-i c = omega arith
+
+may-be-requires : tie.Need-may-be-requires Inv-loop μ-loop
+may-be-requires c κs = omega arith
+
+is-type-requires : tie.Need-is-type-requires Inv-loop μ-loop
+is-type-requires c κs = omega arith
 
 next-group-requires : tie.Need-next-group-requires Inv-loop μ-loop
-next-group-requires c κs = (c .loop-test .taken, c .before .loop .inv .1)
+next-group-requires c κs = (omega (arith, c .before .before .before .before .if1 .taken, c .before .before .before .before .before .before .before .before .before .before .before .pre .0 .1), c .before .before .before .before .before .before .loop .inv .1)
 
-turn-requires : tie.Need-turn-requires Inv-loop μ-loop
-turn-requires c κs = ((c .before .before .loop-test .taken, c .before .before .before .before .before .before .before .before .pre .0 .1), ((c .before .before .before .loop .inv .0 .room, c .before .before .before .before .before .before .before .before .pre .1 .1, c .before .before .before .before .before .before .before .before .pre .1 .2), λ t. group-here (c .before .before .before .before .before .before .before .before .args .list .now) _ _ (c .before .next-group .ensures t .0) (c .before .next-group .ensures t .1)))
+row-requires : tie.Need-row-requires Inv-loop μ-loop
+row-requires c κs = ((omega (arith, c .before .before .before .before .before .before .if1 .taken, c .before .before .before .before .before .before .before .before .before .before .before .before .before .pre .0 .1), c .before .before .before .before .before .before .before .before .before .before .before .before .before .pre .1 .0), ((c .before .before .before .before .before .before .before .before .loop .inv .0 .room, c .before .before .before .before .before .before .before .before .before .before .before .before .before .pre .1 .2, c .before .before .before .before .before .before .before .before .before .before .before .before .before .pre .1 .3), λ t. group-here (c .before .before .before .before .before .before .before .before .before .before .before .before .before .args .list .now) _ _ (c .before .next-group .ensures t .0) (c .before .next-group .ensures t .1)))
 
 same-length : tie.Need-same-length Inv-loop μ-loop
 same-length c = search needs
 
 returns : tie.Need-returns Inv-loop μ-loop
-returns c = going-stop _ _ _ _ _ _ _ _ _ (c .before .before .before .before .before .before .before .before .before .loop .inv .0) (c .before .before .before .before .before .before .before .before .loop-test .taken) _ _ (c .before .before .before .before .before .turn .ensures) (not-true _ (c .if1 .taken))
-
-add-i : tie.Need-add-i Inv-loop μ-loop
-add-i c = omega arith
+returns c = along-stop _ _ _ _ _ _ _ _ _ (c .before .before .before .before .before .before .before .before .before .before .before .before .before .loop .inv .0) (c .before .before .before .before .before .before .before .before .before .before .before .if1 .taken) _ _ _ (c .before .before .before .before .row .ensures) (λ want w. turn-any _ _ _ _ want _ _ (drop (c .before .before .before .before .before .before .before .before .before .before .before .before .before .loop .i + 1) (c .before .before .before .before .before .before .before .before .before .before .before .before .before .before .before .before .before .before .args .list .now)) (length (c .before .before .before .before .before .before .before .before .before .before .before .before .before .loop .out) - c .before .before .before .before .before .before .before .before .before .before .before .before .before .loop .c .len) (w ∙ sym (c .before .before .before .before .before .before .before .before .is-type .ensures) ∙ c .before .before .before .before .before .before .before .if3 .taken)) (c .if4 .taken)
 
 loop-less : tie.Need-loop-less Inv-loop μ-loop
 loop-less c = omega arith
 
 loop-again : tie.Need-loop-again Inv-loop μ-loop
-loop-again c = (going-more _ _ _ _ _ _ _ _ _ (c .before .before .before .before .before .before .before .before .before .loop .inv .0) (c .before .before .before .before .before .before .before .before .loop-test .taken) _ _ (c .before .before .before .before .before .turn .ensures) (not-false _ (c .if1 .left)), λ t. group-later (c .before .before .before .before .before .before .before .before .before .before .before .before .before .before .args .list .now) _ _ (c .before .before .before .before .before .before .before .next-group .ensures t .1))
+loop-again c = (along-more _ _ _ _ _ _ _ _ _ (c .before .before .before .before .before .before .before .before .before .before .before .before .before .loop .inv .0) (c .before .before .before .before .before .before .before .before .before .before .before .if1 .taken) _ _ _ (c .before .before .before .before .row .ensures) (λ want w. turn-any _ _ _ _ want _ _ (drop (c .before .before .before .before .before .before .before .before .before .before .before .before .before .loop .i + 1) (c .before .before .before .before .before .before .before .before .before .before .before .before .before .before .before .before .before .before .args .list .now)) (length (c .before .before .before .before .before .before .before .before .before .before .before .before .before .loop .out) - c .before .before .before .before .before .before .before .before .before .before .before .before .before .loop .c .len) (w ∙ sym (c .before .before .before .before .before .before .before .before .is-type .ensures) ∙ c .before .before .before .before .before .before .before .if3 .taken)) (c .if4 .left), λ t. group-later (c .before .before .before .before .before .before .before .before .before .before .before .before .before .before .before .before .before .before .args .list .now) _ _ (c .before .before .before .before .before .before .next-group .ensures t .1))
+
+loop-less-2 : tie.Need-loop-less-2 Inv-loop μ-loop
+loop-less-2 c = omega arith
+
+loop-again-2 : tie.Need-loop-again-2 Inv-loop μ-loop
+loop-again-2 c = (along-skip _ _ _ _ _ _ _ _ _ (c .before .before .before .before .before .before .loop .inv .0) (c .before .before .before .before .if1 .taken) (λ want w. turn-skip _ _ _ _ want _ _ (drop (c .before .before .before .before .before .before .loop .i + 1) (c .before .before .before .before .before .before .before .before .before .before .before .args .list .now)) (length (c .before .before .before .before .before .before .loop .out) - c .before .before .before .before .before .before .loop .c .len) (w ∙ sym (c .before .is-type .ensures) ∙ c .if3 .left)), λ t. group-later (c .before .before .before .before .before .before .before .before .before .before .before .args .list .now) _ _ (c .before .before .before .before .before .before .loop .inv .1 t))
+
+loop-less-3 : tie.Need-loop-less-3 Inv-loop μ-loop
+loop-less-3 c = omega arith
+
+loop-again-3 : tie.Need-loop-again-3 Inv-loop μ-loop
+loop-again-3 c = (along-skip _ _ _ _ _ _ _ _ _ (c .before .before .before .before .loop .inv .0) (c .before .before .if1 .taken) (λ want w. turn-skip _ _ _ _ want _ _ (drop (c .before .before .before .before .loop .i + 1) (c .before .before .before .before .before .before .before .before .before .args .list .now)) (length (c .before .before .before .before .loop .out) - c .before .before .before .before .loop .c .len) (w ∙ may-not _ _ _ (c .before .may-be .ensures .1) (c .before .before .before .before .before .before .before .before .before .pre .0 .2) (sym (c .before .may-be .ensures .0) ∙ c .if2 .left))), λ t. group-later (c .before .before .before .before .before .before .before .before .before .args .list .now) _ _ (c .before .before .before .before .loop .inv .1 t))
 
 same-length-2 : tie.Need-same-length-2 Inv-loop μ-loop
 same-length-2 c = search needs
 
 returns-2 : tie.Need-returns-2 Inv-loop μ-loop
-returns-2 c = going-end _ [] _ _ _ _ _ _ _ (c .before .loop .inv .0) (c .loop-test .left)
+returns-2 c = along-end _ _ _ _ _ _ _ _ _ (c .before .before .loop .inv .0) (c .if1 .left) (λ want r rs n w. turn-skip _ _ _ _ want _ r rs n w)
 
 pub put-list-spec : {M : Type 1} → statement M
 put-list-spec =
@@ -60,12 +77,18 @@ put-list-spec =
     Inv-loop
     μ-loop
     loop-holds
+    add-i
+    may-be-requires
+    is-type-requires
     next-group-requires
-    turn-requires
+    row-requires
     same-length
     returns
-    add-i
     loop-less
     loop-again
+    loop-less-2
+    loop-again-2
+    loop-less-3
+    loop-again-3
     same-length-2
     returns-2)

@@ -1,12 +1,15 @@
 -- `listing::inner::read_by` meets its contract. A law for each answer, by the range and by what the search finds. Assumes nothing.
 use denote.Ref.{now}
-use lib.ListN.{length}
-use Prim.Native.Nat.{ℕ, _+_, _-_}
 use mathlib.Core.Path.{sym, ap, _∙_}
-use Rattle.model.proofs.Sending.{sent-as, bad-range, good-range}
-use Rattle.listing.proofs.Lists.{cut-limit, found-inside, none-found, first-code, first-value, header-fits, sent-rows}
+use Prim.Native.Nat.{ℕ, _+_, _-_}
 use native.Mathlib.Omega.{arith}
+use lib.ListN.{length}
 use borrow.Author.Needs.{needs}
+use Rattle.attribute.specs.declared.ShortForm.{ShortForm}
+use Rattle.attribute.proofs.Halves.{ascending}
+use Rattle.attribute.proofs.Walks.{first-wanted, none-wanted, picks-type, picks-later}
+use Rattle.model.proofs.Sending.{sent-as, bad-range, good-range}
+use Rattle.listing.proofs.Lists.{cut-limit, none-found, first-code, first-value, header-fits, sent-rows}
 use Rattle.listing.proofs.inner.read_by.Statement.{statement}
 use Rattle.listing.proofs.inner.read_by.Tie as tie
 
@@ -22,14 +25,14 @@ same-length c = search needs
 returns : tie.Need-returns
 returns c = sent-as _ _ _ _ _ (c .before .before .error-response .ensures) (bad-range _ _ (sym (c .before .before .before .before .before .is-bad .ensures) ∙ c .before .before .before .before .if1 .taken))
 
-find-wanted-requires : tie.Need-find-wanted-requires
-find-wanted-requires c κs = search needs
+short-of-requires : tie.Need-short-of-requires
+short-of-requires c κs = search needs
 
-enum-known-first : tie.Need-enum-known-first
-enum-known-first c = search needs
+stretch-requires : tie.Need-stretch-requires
+stretch-requires c κs = ascending _ _ (c .before .before .before .before .before .before .before .pre .0 .right)
 
-enum-told : tie.Need-enum-told
-enum-told c = search needs
+find-type-requires : tie.Need-find-type-requires
+find-type-requires c κs = search needs
 
 error-response-requires-2 : tie.Need-error-response-requires-2
 error-response-requires-2 c κs = search needs
@@ -38,16 +41,16 @@ same-length-2 : tie.Need-same-length-2
 same-length-2 c = search needs
 
 returns-2 : tie.Need-returns-2
-returns-2 c = sent-as _ _ _ _ _ (c .before .before .error-response2 .ensures) (none-found _ _ _ _ _ _ _ _ _ (c .before .before .before .before .before .before .find-wanted .ensures) (c .before .before .before .before .enum-told .given .1) ∙ good-range _ _ (sym (c .before .before .before .before .before .before .before .before .is-bad .ensures) ∙ c .before .before .before .before .before .before .before .if1 .left))
+returns-2 c = sent-as _ _ _ _ _ (c .before .before .error-response2 .ensures) (none-found _ _ _ _ _ _ _ _ (none-wanted _ _ _ _ (c .before .before .before .before .before .before .before .stretch .ensures .0) (c .before .before .before .before .before .before .before .stretch .ensures .1) _ _ (c .before .before .before .before .before .before .find-type .ensures) (c .before .before .before .before .if2 .taken)) ∙ good-range _ _ (sym (c .before .before .before .before .before .before .before .before .before .before .is-bad .ensures) ∙ c .before .before .before .before .before .before .before .before .before .if1 .left))
 
 locate-at-requires : tie.Need-locate-at-requires
-locate-at-requires c κs = (found-inside _ (now (c .before .before .before .before .before .before .before .before .before .before .args .list)) _ _ (c .before .before .before .find-wanted .ensures) (c .before .first .given .1), c .before .before .before .before .before .before .before .before .before .before .pre .0 .table)
+locate-at-requires c κs = (omega (arith, c .if2 .left, c .before .before .before .stretch .ensures .1 .inside), c .before .before .before .before .before .before .before .before .before .before .before .pre .0 .table)
 
 enum-known-code : tie.Need-enum-known-code
 enum-known-code c = search needs
 
 handle-at-requires : tie.Need-handle-at-requires
-handle-at-requires c κs = found-inside _ (now (c .before .before .before .before .before .before .before .before .before .before .before .before .before .before .args .list)) _ _ (c .before .before .before .before .before .before .before .find-wanted .ensures) (c .before .before .before .before .before .first .given .1)
+handle-at-requires c κs = search needs
 
 error-response-requires-3 : tie.Need-error-response-requires-3
 error-response-requires-3 c κs = search needs
@@ -71,28 +74,28 @@ extra-requires : tie.Need-extra-requires
 extra-requires c κs = search needs
 
 add-byte : tie.Need-add-byte
-add-byte c = omega (arith, cut-limit (c .before .before .before .before .before .before .before .before .before .before .before .before .before .before .before .before .before .before .before .before .before .before .args .form) (length (now (c .before .before .before .before .before .before .before .before .before .before .before .before .before .before .before .before .before .before .before .before .before .before .args .out)) - 2) (c .before .before .before .before .before .before .before .before .before .s .given .0 .0 .len), c .before .before .before .before .before .before .before .cut .ensures, c .extra .ensures .0, c .before .before .before .before .before .before .before .before .before .before .before .before .before .before .before .before .before .before .before .before .before .before .pre .2)
+add-byte c = omega (arith, cut-limit (c .before .before .before .before .before .before .before .before .before .before .before .before .before .before .before .before .before .before .before .before .before .before .before .args .form) (length (now (c .before .before .before .before .before .before .before .before .before .before .before .before .before .before .before .before .before .before .before .before .before .before .before .args .out)) - 2) (c .before .before .before .before .before .before .before .before .before .s .given .0 .0 .len), c .before .before .before .before .before .before .before .cut .ensures, c .extra .ensures .0, c .before .before .before .before .before .before .before .before .before .before .before .before .before .before .before .before .before .before .before .before .before .before .before .pre .2)
 
 cast-byte : tie.Need-cast-byte
-cast-byte c = omega (arith, cut-limit (c .before .before .before .before .before .before .before .before .before .before .before .before .before .before .before .before .before .before .before .before .before .before .args .form) (length (now (c .before .before .before .before .before .before .before .before .before .before .before .before .before .before .before .before .before .before .before .before .before .before .args .out)) - 2) (c .before .before .before .before .before .before .before .before .before .s .given .0 .0 .len), c .before .before .before .before .before .before .before .cut .ensures, c .extra .ensures .0, c .before .before .before .before .before .before .before .before .before .before .before .before .before .before .before .before .before .before .before .before .before .before .pre .2)
+cast-byte c = omega (arith, cut-limit (c .before .before .before .before .before .before .before .before .before .before .before .before .before .before .before .before .before .before .before .before .before .before .before .args .form) (length (now (c .before .before .before .before .before .before .before .before .before .before .before .before .before .before .before .before .before .before .before .before .before .before .before .args .out)) - 2) (c .before .before .before .before .before .before .before .before .before .s .given .0 .0 .len), c .before .before .before .before .before .before .before .cut .ensures, c .extra .ensures .0, c .before .before .before .before .before .before .before .before .before .before .before .before .before .before .before .before .before .before .before .before .before .before .before .pre .2)
 
 byte-requires-2 : tie.Need-byte-requires-2
 byte-requires-2 c κs = search needs
 
 put-list-requires : tie.Need-put-list-requires
-put-list-requires c κs = ((omega (arith, found-inside _ (now (c .before .before .before .before .before .before .before .before .before .before .before .before .before .before .before .before .before .before .before .before .before .before .before .before .before .before .args .list)) _ _ (c .before .before .before .before .before .before .before .before .before .before .before .before .before .before .before .before .before .before .before .find-wanted .ensures) (c .before .before .before .before .before .before .before .before .before .before .before .before .before .before .before .before .before .first .given .1)), c .before .before .before .before .before .before .before .before .before .before .before .before .before .before .before .before .before .before .before .before .before .before .before .before .before .before .pre .0), (header-fits _ _ _ _ _ _ _ _ (omega (arith, c .before .before .before .before .before .before .before .before .before .before .before .before .before .before .before .before .before .before .before .before .before .before .before .before .before .before .pre .1)) (c .before .before .before .before .before .before .before .before .before .before .new .ensures .0) (c .before .before .before .before .before .before .before .before .byte .ensures .0) (c .before .before .before .before .before .before .before .before .byte .ensures .1) (c .before .before .before .byte2 .ensures .0) (c .before .before .before .byte2 .ensures .1), omega (arith, cut-limit (c .before .before .before .before .before .before .before .before .before .before .before .before .before .before .before .before .before .before .before .before .before .before .before .before .before .before .args .form) (length (now (c .before .before .before .before .before .before .before .before .before .before .before .before .before .before .before .before .before .before .before .before .before .before .before .before .before .before .args .out)) - 2) (c .before .before .before .before .before .before .before .before .before .before .before .before .before .s .given .0 .0 .len), c .before .before .before .before .before .before .before .before .before .before .before .cut .ensures), omega (arith, c .before .before .before .before .before .before .before .before .before .before .before .before .before .before .before .before .before .before .before .before .before .before .before .before .before .before .pre .2)))
+put-list-requires c κs = ((omega (arith, c .before .before .before .before .before .before .before .before .before .before .before .before .before .before .before .before .if2 .left), c .before .before .before .before .before .before .before .before .before .before .before .before .before .before .before .before .before .before .before .stretch .ensures .1 .inside, ap (λ (x : ShortForm). x .value) (c .before .before .before .before .before .before .before .before .before .before .before .before .before .before .before .before .before .before .before .before .short-of .ensures)), (c .before .before .before .before .before .before .before .before .before .before .before .before .before .before .before .before .before .before .before .before .before .before .before .before .before .before .before .pre .0, header-fits _ _ _ _ _ _ _ _ (omega (arith, c .before .before .before .before .before .before .before .before .before .before .before .before .before .before .before .before .before .before .before .before .before .before .before .before .before .before .before .pre .1)) (c .before .before .before .before .before .before .before .before .before .before .new .ensures .0) (c .before .before .before .before .before .before .before .before .byte .ensures .0) (c .before .before .before .before .before .before .before .before .byte .ensures .1) (c .before .before .before .byte2 .ensures .0) (c .before .before .before .byte2 .ensures .1), omega (arith, cut-limit (c .before .before .before .before .before .before .before .before .before .before .before .before .before .before .before .before .before .before .before .before .before .before .before .before .before .before .before .args .form) (length (now (c .before .before .before .before .before .before .before .before .before .before .before .before .before .before .before .before .before .before .before .before .before .before .before .before .before .before .before .args .out)) - 2) (c .before .before .before .before .before .before .before .before .before .before .before .before .before .s .given .0 .0 .len), c .before .before .before .before .before .before .before .before .before .before .before .cut .ensures), omega (arith, c .before .before .before .before .before .before .before .before .before .before .before .before .before .before .before .before .before .before .before .before .before .before .before .before .before .before .before .pre .2)))
 
 same-length-3 : tie.Need-same-length-3
 same-length-3 c = search needs
 
 returns-3 : tie.Need-returns-3
-returns-3 c = sent-as _ _ _ _ _ (c .before .before .error-response3 .ensures) (first-code _ _ _ _ _ _ _ _ _ (c .before .before .before .before .before .before .before .before .before .before .before .before .find-wanted .ensures) _ (c .before .before .before .before .before .before .before .before .before .before .first .given .1) _ (c .before .before .before .before .before .before .before .before .locate-at .ensures) _ _ (c .before .before .before .before .before .before .code .given .1) (c .before .before .before .before .handle-at .ensures) ∙ good-range _ _ (sym (c .before .before .before .before .before .before .before .before .before .before .before .before .before .before .is-bad .ensures) ∙ c .before .before .before .before .before .before .before .before .before .before .before .before .before .if1 .left))
+returns-3 c = sent-as _ _ _ _ _ (c .before .before .error-response3 .ensures) (first-code _ _ _ _ _ _ _ _ _ (first-wanted _ _ _ _ (c .before .before .before .before .before .before .before .before .before .before .before .before .stretch .ensures .0) (c .before .before .before .before .before .before .before .before .before .before .before .before .stretch .ensures .1) _ _ (c .before .before .before .before .before .before .before .before .before .before .before .find-type .ensures) (c .before .before .before .before .before .before .before .before .before .if2 .left)) _ (c .before .before .before .before .before .before .before .before .locate-at .ensures) _ _ (c .before .before .before .before .before .before .code .given .1) (c .before .before .before .before .handle-at .ensures) ∙ good-range _ _ (sym (c .before .before .before .before .before .before .before .before .before .before .before .before .before .before .before .is-bad .ensures) ∙ c .before .before .before .before .before .before .before .before .before .before .before .before .before .before .if1 .left))
 
 same-length-4 : tie.Need-same-length-4
 same-length-4 c = search needs
 
 returns-4 : tie.Need-returns-4
-returns-4 c = sent-rows _ _ _ _ _ _ _ _ (omega (arith, c .before .before .before .before .before .before .before .before .before .before .before .before .before .before .before .before .before .before .before .before .before .before .before .before .before .before .before .before .before .pre .1)) (c .before .before .before .before .before .before .before .before .before .before .before .before .before .new .ensures .0) (c .before .before .before .before .before .before .before .before .before .before .before .byte .ensures .0) (c .before .before .before .before .before .before .before .before .before .before .before .byte .ensures .1) (c .before .before .before .before .before .before .byte2 .ensures .0) (c .before .before .before .before .before .before .byte2 .ensures .1) _ _ _ _ _ _ (ap (λ (x : ℕ). c .before .before .before .before .before .before .before .before .before .before .before .before .before .before .cut .result + x) (c .before .before .before .before .before .before .before .extra .ensures .0)) (c .before .before .put-list .ensures) (first-value _ _ _ _ _ _ _ _ _ (c .before .before .before .before .before .before .before .before .before .before .before .before .before .before .before .before .before .before .before .before .before .before .find-wanted .ensures) _ (c .before .before .before .before .before .before .before .before .before .before .before .before .before .before .before .before .before .before .before .before .first .given .1) _ (c .before .before .before .before .before .before .before .before .before .before .before .before .before .before .before .before .before .before .locate-at .ensures) (c .before .before .before .before .before .before .before .before .before .before .before .before .before .before .before .before .before .before .before .before .before .before .before .before .before .before .before .before .before .pre .0) _ (c .before .before .before .before .before .before .before .before .before .before .before .before .before .before .before .before .s .given .1) _ (c .before .before .before .before .before .before .before .before .before .before .before .before .before .before .cut .ensures) ∙ good-range _ _ (sym (c .before .before .before .before .before .before .before .before .before .before .before .before .before .before .before .before .before .before .before .before .before .before .before .before .is-bad .ensures) ∙ c .before .before .before .before .before .before .before .before .before .before .before .before .before .before .before .before .before .before .before .before .before .before .before .if1 .left))
+returns-4 c = sent-rows _ _ _ _ _ _ _ _ (omega (arith, c .before .before .before .before .before .before .before .before .before .before .before .before .before .before .before .before .before .before .before .before .before .before .before .before .before .before .before .before .before .before .pre .1)) (c .before .before .before .before .before .before .before .before .before .before .before .before .before .new .ensures .0) (c .before .before .before .before .before .before .before .before .before .before .before .byte .ensures .0) (c .before .before .before .before .before .before .before .before .before .before .before .byte .ensures .1) (c .before .before .before .before .before .before .byte2 .ensures .0) (c .before .before .before .before .before .before .byte2 .ensures .1) _ _ _ _ _ _ (ap (λ (x : ℕ). c .before .before .before .before .before .before .before .before .before .before .before .before .before .before .cut .result + x) (c .before .before .before .before .before .before .before .extra .ensures .0)) (c .before .before .put-list .ensures _ (picks-later _ _ _ _ _ _ (c .before .before .before .before .before .before .before .before .before .before .before .before .before .before .before .before .before .before .before .before .before .find-type .ensures .late) (picks-type _ _ _ _ (c .before .before .before .before .before .before .before .before .before .before .before .before .before .before .before .before .before .before .before .before .before .before .stretch .ensures .0) (c .before .before .before .before .before .before .before .before .before .before .before .before .before .before .before .before .before .before .before .before .before .before .stretch .ensures .1) _))) (first-value _ _ _ _ _ _ _ _ _ (first-wanted _ _ _ _ (c .before .before .before .before .before .before .before .before .before .before .before .before .before .before .before .before .before .before .before .before .before .before .stretch .ensures .0) (c .before .before .before .before .before .before .before .before .before .before .before .before .before .before .before .before .before .before .before .before .before .before .stretch .ensures .1) _ _ (c .before .before .before .before .before .before .before .before .before .before .before .before .before .before .before .before .before .before .before .before .before .find-type .ensures) (c .before .before .before .before .before .before .before .before .before .before .before .before .before .before .before .before .before .before .before .if2 .left)) _ (c .before .before .before .before .before .before .before .before .before .before .before .before .before .before .before .before .before .before .locate-at .ensures) (c .before .before .before .before .before .before .before .before .before .before .before .before .before .before .before .before .before .before .before .before .before .before .before .before .before .before .before .before .before .before .pre .0) _ (c .before .before .before .before .before .before .before .before .before .before .before .before .before .before .before .before .s .given .1) _ (c .before .before .before .before .before .before .before .before .before .before .before .before .before .before .cut .ensures) ∙ good-range _ _ (sym (c .before .before .before .before .before .before .before .before .before .before .before .before .before .before .before .before .before .before .before .before .before .before .before .before .before .is-bad .ensures) ∙ c .before .before .before .before .before .before .before .before .before .before .before .before .before .before .before .before .before .before .before .before .before .before .before .before .if1 .left))
 
 pub read-by-spec : {M : Type 1} → statement M
 read-by-spec =
@@ -102,9 +105,9 @@ read-by-spec =
     error-response-requires
     same-length
     returns
-    find-wanted-requires
-    enum-known-first
-    enum-told
+    short-of-requires
+    stretch-requires
+    find-type-requires
     error-response-requires-2
     same-length-2
     returns-2

@@ -2,6 +2,7 @@
 use denote.Ref.{now}
 use Rattle.requests.proofs.Asking.{entries-seen, asks-information, asks-by-type, asks-by-group, asks-read, asks-blob, asks-multiple}
 use native.Mathlib.Omega.{arith}
+use Rattle.attribute.proofs.Halves.{ascending}
 use Rattle.model.proofs.Sending.{sent-as}
 use borrow.Author.Needs.{needs}
 use Rattle.requests.proofs.inner.ask.Statement.{statement}
@@ -11,7 +12,7 @@ enum-known-rq : tie.Need-enum-known-rq
 enum-known-rq c = search needs
 
 find-information-requires : tie.Need-find-information-requires
-find-information-requires c κs = omega (arith, c .before .before .before .before .before .before .before .before .pre .1)
+find-information-requires c κs = (ascending _ _ (c .before .before .before .before .before .before .before .before .pre .0 .right), omega (arith, c .before .before .before .before .before .before .before .before .pre .1))
 
 enum-known-rq-2 : tie.Need-enum-known-rq-2
 enum-known-rq-2 c = search needs

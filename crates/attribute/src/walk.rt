@@ -1,0 +1,164 @@
+// Lookups and walks where handles ascend: the place of a handle and the places that a range of handles has, by halves, and the entries of a
+// type among them. A range is turned into places once, so that no entry's handle is tested; and a type into its short form, so that most
+// entries are passed over by one number.
+ghost use mathlib.Core.Path.{_≡_};
+ghost use mathlib.Core.Bool.{false};
+ghost use mathlib.Core.List.{[]};
+ghost use Prim.Native.Nat.{_+_, _≤_, _<_};
+ghost use lib.ListN.{length, getD};
+ghost use Rattle.attribute.specs.Lookup.{placeOf, Ascends};
+ghost use Rattle.attribute.specs.Walk.{Parts, shortOf, mayBe, isOf, FirstOf};
+use crate::ShortForm;
+use crate::Stretch;
+use crate::inner;
+use wire::Found;
+
+// The first place whose handle is not below one, by halves.
+fn place_from(list: &[[u8; 32]], handle: u16) -> usize
+    requires { ⌜ Ascends (now list) ⌝ }
+    ensures { λ r. ⌜ Parts (now (list .entry)) handle r ⌝ }
+{
+    let mut lo = 0;
+    let mut hi = list.len();
+    while lo < hi {
+        let mid = (lo + hi) / 2;
+        if inner::handle_at(list, mid) < handle {
+            lo = mid + 1;
+        } else {
+            hi = mid;
+        }
+    }
+    lo
+}
+
+// The place of a handle.
+pub fn find_listed(list: &[[u8; 32]], handle: u16) -> Found
+    requires { ⌜ Ascends (now list) ⌝ }
+    ensures { λ r. ⌜ r ≡ placeOf (now (list .entry)) handle ⌝ }
+{
+    let p = place_from(list, handle);
+    if p < list.len() {
+        if inner::handle_at(list, p) == handle {
+            return Found::At(p);
+        }
+    }
+    Found::Nothing
+}
+
+// The first place of a range, which mostly starts with the list.
+fn first_from(list: &[[u8; 32]], start: u16) -> usize
+    requires { ⌜ Ascends (now list) × (0 < length (now list)) ⌝ }
+    ensures { λ r. ⌜ Parts (now (list .entry)) start r ⌝ }
+{
+    if start <= inner::handle_at(list, 0) {
+        return 0;
+    }
+    place_from(list, start)
+}
+
+// The first place behind a range, which mostly ends with the list.
+fn first_behind(list: &[[u8; 32]], end: u16) -> usize
+    requires { ⌜ Ascends (now list) × (0 < length (now list)) ⌝ }
+    ensures { λ r. ⌜ Parts (now (list .entry)) (end + 1) r ⌝ }
+{
+    if inner::handle_at(list, list.len() - 1) <= end {
+        return list.len();
+    }
+    place_from(list, end + 1)
+}
+
+// The places whose handles lie in a range.
+pub fn stretch(list: &[[u8; 32]], start: u16, end: u16) -> Stretch
+    requires { ⌜ Ascends (now list) ⌝ }
+    ensures { λ r. ⌜ Parts (now (list .entry)) start (r .from) × Parts (now (list .entry)) (end + 1) (r .to) ⌝ }
+{
+    if list.len() == 0 {
+        return Stretch { from: 0, to: 0 };
+    }
+    Stretch {
+        from: first_from(list, start),
+        to: first_behind(list, end),
+    }
+}
+
+// A UUID's short form. A long one that has none mostly differs in its last byte.
+pub fn short_of(u: &[u8]) -> ShortForm
+    ensures { λ r. ⌜ r ≡ shortOf (now (u .entry)) ⌝ }
+{
+    if u.len() == 2 {
+        return ShortForm {
+            has: true,
+            value: wire::inner::get(u, 0),
+        };
+    }
+    if u.len() == 16 {
+        if u[15] == 0 {
+            if wire::uuid::same_uuid(&u[12..14], u) {
+                return ShortForm {
+                    has: true,
+                    value: wire::inner::get(u, 12),
+                };
+            }
+        }
+    }
+    ShortForm {
+        has: false,
+        value: 0,
+    }
+}
+
+// Whether an entry may be of a type that has this short form: a long UUID is not looked at.
+pub fn may_be(list: &[[u8; 32]], i: usize, value: u16) -> bool
+    requires { ⌜ i < length (now list) ⌝ }
+    ensures { λ r. ⌜ (r ≡ mayBe value (getD (now (list .entry)) i [])) × (length (getD (now (list .entry)) i []) ≡ 32) ⌝ }
+{
+    if !inner::is_short(&list[i]) {
+        return true;
+    }
+    wire::inner::get(&list[i], 12) == value
+}
+
+// The first of the places whose entry is of a type that has this short form; or a place behind them.
+fn find_short(list: &[[u8; 32]], p: Stretch, value: u16, uuid: &[u8]) -> usize
+    requires { ⌜ (p .to ≤ length (now list)) × (value ≡ shortOf (now uuid) .value) ⌝ }
+    ensures { λ r. ⌜ FirstOf (isOf (now (uuid .entry))) (now (list .entry)) p r ⌝ }
+{
+    let mut i = p.from;
+    while i < p.to {
+        if may_be(list, i, value) {
+            if inner::is_type(list, i, uuid) {
+                return i;
+            }
+        }
+        i += 1;
+    }
+    i
+}
+
+// The same for a type that has none: only long UUIDs are compared.
+fn find_long(list: &[[u8; 32]], p: Stretch, uuid: &[u8]) -> usize
+    requires { ⌜ (p .to ≤ length (now list)) × (shortOf (now uuid) .has ≡ false) ⌝ }
+    ensures { λ r. ⌜ FirstOf (isOf (now (uuid .entry))) (now (list .entry)) p r ⌝ }
+{
+    let mut i = p.from;
+    while i < p.to {
+        if !inner::is_short(&list[i]) {
+            if inner::is_type(list, i, uuid) {
+                return i;
+            }
+        }
+        i += 1;
+    }
+    i
+}
+
+// The same for any type, with its short form.
+pub fn find_type(list: &[[u8; 32]], p: Stretch, short: ShortForm, uuid: &[u8]) -> usize
+    requires { ⌜ (p .to ≤ length (now list)) × (short ≡ shortOf (now uuid)) ⌝ }
+    ensures { λ r. ⌜ FirstOf (isOf (now (uuid .entry))) (now (list .entry)) p r ⌝ }
+{
+    if short.has {
+        return find_short(list, p, short.value, uuid);
+    }
+    find_long(list, p, uuid)
+}

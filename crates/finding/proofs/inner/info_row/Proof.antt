@@ -1,0 +1,78 @@
+-- `finding::inner::info_row` meets its contract. Another format, no room, or handle and UUID: a law for each. Assumes nothing.
+use native.Mathlib.Omega.{arith}
+use borrow.Author.Needs.{needs}
+use Rattle.model.proofs.Running.{row-stopped}
+use Rattle.finding.proofs.Infos.{info-other, info-full, info-wrote}
+use Rattle.finding.proofs.inner.info_row.Statement.{statement}
+use Rattle.finding.proofs.inner.info_row.Tie as tie
+
+mul-uuid : tie.Need-mul-uuid
+mul-uuid c = search needs
+
+shared-slice-element-uuid : tie.Need-shared-slice-element-uuid
+shared-slice-element-uuid c = search needs
+
+uuid-requires : tie.Need-uuid-requires
+uuid-requires c κs = search needs
+
+returns : tie.Need-returns
+returns c = row-stopped _ _ _ (c .before .before .before .before .before .pre .1) (info-other _ _ _ _ _ (c .before .uuid .ensures) (c .if1 .taken))
+
+available-requires : tie.Need-available-requires
+available-requires c κs = search needs
+
+add-if2 : tie.Need-add-if2
+add-if2 c = search needs
+
+same-length : tie.Need-same-length
+same-length c = search needs
+
+returns-2 : tie.Need-returns-2
+returns-2 c =
+    row-stopped _ _ _ (c .before .before .before .before .before .before .before .before .pre .1)
+    (info-full _ _ _ _ _ (c .before .before .before .before .uuid .ensures)
+    (c .before .before .before .if1 .left)
+    (omega (arith, c .before .available .ensures, c .if2 .taken)))
+
+handle-at-requires : tie.Need-handle-at-requires
+handle-at-requires c κs = search needs
+
+word-requires : tie.Need-word-requires
+word-requires c κs = search needs
+
+append-requires : tie.Need-append-requires
+append-requires c κs = search needs
+
+same-length-2 : tie.Need-same-length-2
+same-length-2 c = search needs
+
+returns-3 : tie.Need-returns-3
+returns-3 c =
+    info-wrote _ _ _ _ _ _ _ _ _ _ (c .before .before .before .before .before .before .before .before .before .before .before .before .before .before .before .before .before .pre .1)
+    (c .before .before .before .before .before .before .before .before .before .before .available .ensures) _
+    (c .before .before .before .before .before .before .before .before .before .before .before .before .before .uuid .ensures)
+    (c .before .before .before .before .before .before .before .before .before .before .before .before .if1 .left) _
+    (c .before .before .before .before .before .before .before .handle-at .ensures)
+    (c .before .before .before .before .before .before .before .before .before .if2 .left)
+    (c .before .before .before .before .before .before .word .ensures .0)
+    (c .before .before .before .before .before .before .word .ensures .1)
+    (c .before .before .append .ensures .0)
+    (c .before .before .append .ensures .1)
+
+pub info-row-spec : {M : Type 1} → statement M
+info-row-spec =
+    tie.close
+    (tie.spec
+    mul-uuid
+    shared-slice-element-uuid
+    uuid-requires
+    returns
+    available-requires
+    add-if2
+    same-length
+    returns-2
+    handle-at-requires
+    word-requires
+    append-requires
+    same-length-2
+    returns-3)

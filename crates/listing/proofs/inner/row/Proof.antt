@@ -1,0 +1,84 @@
+-- `listing::inner::row` meets its contract. No room, no value, another length, or the lead and the value behind it. Assumes nothing.
+use denote.Ref.{now}
+use mathlib.Core.Path.{refl, ap, _∙_}
+use Prim.Native.Nat.{ℕ, _+_, _-_}
+use native.Mathlib.Omega.{arith}
+use lib.ListN.{length, drop}
+use borrow.Author.Needs.{needs}
+use Rattle.model.specs.Rows.{anyEntry}
+use Rattle.model.proofs.Running.{row-stopped, row-written}
+use Rattle.values.specs.Locate.{gotOf}
+use Rattle.values.proofs.Meaning.{at-got, at-inside}
+use Rattle.listing.specs.Turns.{cutTo}
+use Rattle.listing.proofs.Lists.{turn-full, turn-value, no-value, other-size, row-is, cut-le, some-bytes, span-inside}
+use Rattle.listing.proofs.inner.row.Statement.{statement}
+use Rattle.listing.proofs.inner.row.Tie as tie
+
+available-requires : tie.Need-available-requires
+available-requires c κs = search needs
+
+extra-requires : tie.Need-extra-requires
+extra-requires c κs = search needs
+
+add-if1 : tie.Need-add-if1
+add-if1 c = search needs
+
+same-length : tie.Need-same-length
+same-length c = search needs
+
+returns : tie.Need-returns
+returns c = row-stopped _ _ _ (c .before .before .before .before .before .before .before .pre .1 .0 .0) (turn-full _ _ _ _ anyEntry (c .before .before .before .before .before .before .before .args .size) _ (drop (c .before .before .before .before .before .before .before .args .i + 1) (now (c .before .before .before .before .before .before .before .args .list))) (length (now (c .before .before .before .before .before .before .before .args .out)) - c .before .before .before .before .before .before .before .args .c .len) refl (omega (arith, c .if1 .taken, c .before .before .available .ensures, c .before .extra .ensures .0)))
+
+locate-at-requires : tie.Need-locate-at-requires
+locate-at-requires c κs = search needs
+
+enum-known-s : tie.Need-enum-known-s
+enum-known-s c = search needs
+
+enum-told : tie.Need-enum-told
+enum-told c = search needs
+
+same-length-2 : tie.Need-same-length-2
+same-length-2 c = search needs
+
+returns-2 : tie.Need-returns-2
+returns-2 c = row-stopped _ _ _ (c .before .before .before .before .before .before .before .before .before .before .pre .1 .0 .0) (no-value _ _ _ _ _ _ _ _ _ (c .enum-told .given .1) ∙ (turn-value _ _ _ _ anyEntry (c .before .before .before .before .before .before .before .before .before .before .args .size) _ (drop (c .before .before .before .before .before .before .before .before .before .before .args .i + 1) (now (c .before .before .before .before .before .before .before .before .before .before .args .list))) (length (now (c .before .before .before .before .before .before .before .before .before .before .args .out)) - c .before .before .before .before .before .before .before .before .before .before .args .c .len) refl (omega (arith, c .before .before .before .if1 .left, c .before .before .before .before .before .available .ensures, c .before .before .before .before .extra .ensures .0)) _ (ap (gotOf _ _) (c .before .before .locate-at .ensures) ∙ at-got _ _ _ _)))
+
+cut-requires : tie.Need-cut-requires
+cut-requires c κs = search needs
+
+same-length-3 : tie.Need-same-length-3
+same-length-3 c = search needs
+
+returns-3 : tie.Need-returns-3
+returns-3 c = row-stopped _ _ _ (c .before .before .before .before .before .before .before .before .before .before .before .before .before .pre .1 .0 .0) (other-size _ _ _ _ _ (c .before .before .before .before .before .before .before .before .before .before .before .before .before .args .size) (length (now (c .before .before .before .before .before .before .before .before .before .before .before .before .before .args .out)) - c .before .before .before .before .before .before .before .before .before .before .before .before .before .args .c .len) _ _ (c .before .before .before .s .given .1) (span-inside _ _ _ _ (c .before .before .before .s .given .1) (rw (c .before .before .before .before .before .locate-at .ensures) (at-inside _ _ (c .before .before .before .before .before .before .before .before .before .before .before .before .before .pre .0 .1 .table) _ (c .before .before .before .before .before .before .before .before .before .before .before .before .before .pre .0 .1 .right) _ (c .before .before .before .before .before .before .before .before .before .before .before .before .before .pre .0 .0) _))) _ (c .before .cut .ensures ∙ ap (λ (x : ℕ). cutTo (c .before .before .before .before .before .before .before .before .before .before .before .before .before .args .form) x (c .before .before .before .s .given .0 .0 .len)) (c .before .before .before .before .before .before .before .before .available .ensures)) (λ x. omega (arith, x, c .if2 .taken)) ∙ (turn-value _ _ _ _ anyEntry (c .before .before .before .before .before .before .before .before .before .before .before .before .before .args .size) _ (drop (c .before .before .before .before .before .before .before .before .before .before .before .before .before .args .i + 1) (now (c .before .before .before .before .before .before .before .before .before .before .before .before .before .args .list))) (length (now (c .before .before .before .before .before .before .before .before .before .before .before .before .before .args .out)) - c .before .before .before .before .before .before .before .before .before .before .before .before .before .args .c .len) refl (omega (arith, c .before .before .before .before .before .before .if1 .left, c .before .before .before .before .before .before .before .before .available .ensures, c .before .before .before .before .before .before .before .extra .ensures .0)) _ (ap (gotOf _ _) (c .before .before .before .before .before .locate-at .ensures) ∙ at-got _ _ _ _)))
+
+put-value-requires : tie.Need-put-value-requires
+put-value-requires c κs = ((c .before .before .before .before .before .before .before .before .before .before .before .before .before .before .pre .0 .0, (span-inside _ _ _ _ (c .before .before .before .before .s .given .1) (rw (c .before .before .before .before .before .before .locate-at .ensures) (at-inside _ _ (c .before .before .before .before .before .before .before .before .before .before .before .before .before .before .pre .0 .1 .table) _ (c .before .before .before .before .before .before .before .before .before .before .before .before .before .before .pre .0 .1 .right) _ (c .before .before .before .before .before .before .before .before .before .before .before .before .before .before .pre .0 .0) _))), omega (arith, cut-le (c .before .before .before .before .before .before .before .before .before .before .before .before .before .before .args .form) (c .before .before .before .before .before .before .before .before .before .available .result) (c .before .before .before .before .s .given .0 .0 .len), c .before .before .cut .ensures, c .before .if2 .left)), (omega (arith, c .before .before .before .before .before .before .before .if1 .left, c .before .before .before .before .before .before .before .before .before .available .ensures, c .before .before .before .before .before .before .before .before .extra .ensures .0, c .before .before .before .before .before .before .before .before .before .before .before .before .before .before .pre .1 .0 .0), c .before .before .before .before .before .before .before .before .before .before .before .before .before .before .pre .1 .1))
+
+same-length-4 : tie.Need-same-length-4
+same-length-4 c = search needs
+
+returns-4 : tie.Need-returns-4
+returns-4 c = row-written _ _ _ _ _ _ (row-is _ _ _ _ _ (c .before .before .before .before .before .before .before .before .before .before .before .before .before .before .before .before .before .args .size) (length (now (c .before .before .before .before .before .before .before .before .before .before .before .before .before .before .before .before .before .args .out)) - c .before .before .before .before .before .before .before .before .before .before .before .before .before .before .before .before .before .args .c .len) _ _ (c .before .before .before .before .before .before .before .s .given .1) (span-inside _ _ _ _ (c .before .before .before .before .before .before .before .s .given .1) (rw (c .before .before .before .before .before .before .before .before .before .locate-at .ensures) (at-inside _ _ (c .before .before .before .before .before .before .before .before .before .before .before .before .before .before .before .before .before .pre .0 .1 .table) _ (c .before .before .before .before .before .before .before .before .before .before .before .before .before .before .before .before .before .pre .0 .1 .right) _ (c .before .before .before .before .before .before .before .before .before .before .before .before .before .before .before .before .before .pre .0 .0) _))) _ (c .before .before .before .before .before .cut .ensures ∙ ap (λ (x : ℕ). cutTo (c .before .before .before .before .before .before .before .before .before .before .before .before .before .before .before .before .before .args .form) x (c .before .before .before .before .before .before .before .s .given .0 .0 .len)) (c .before .before .before .before .before .before .before .before .before .before .before .before .available .ensures)) (c .before .before .before .before .if2 .left) ∙ (turn-value _ _ _ _ anyEntry (c .before .before .before .before .before .before .before .before .before .before .before .before .before .before .before .before .before .args .size) _ (drop (c .before .before .before .before .before .before .before .before .before .before .before .before .before .before .before .before .before .args .i + 1) (now (c .before .before .before .before .before .before .before .before .before .before .before .before .before .before .before .before .before .args .list))) (length (now (c .before .before .before .before .before .before .before .before .before .before .before .before .before .before .before .before .before .args .out)) - c .before .before .before .before .before .before .before .before .before .before .before .before .before .before .before .before .before .args .c .len) refl (omega (arith, c .before .before .before .before .before .before .before .before .before .before .if1 .left, c .before .before .before .before .before .before .before .before .before .before .before .before .available .ensures, c .before .before .before .before .before .before .before .before .before .before .before .extra .ensures .0)) _ (ap (gotOf _ _) (c .before .before .before .before .before .before .before .before .before .locate-at .ensures) ∙ at-got _ _ _ _))) (some-bytes _ _ _ _) (c .before .before .put-value .ensures)
+
+pub row-spec : {M : Type 1} → statement M
+row-spec =
+    tie.close
+    (tie.spec
+    available-requires
+    extra-requires
+    add-if1
+    same-length
+    returns
+    locate-at-requires
+    enum-known-s
+    enum-told
+    same-length-2
+    returns-2
+    cut-requires
+    same-length-3
+    returns-3
+    put-value-requires
+    same-length-4
+    returns-4)
