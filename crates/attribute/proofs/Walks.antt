@@ -3,9 +3,10 @@ use mathlib.Core.Path.{_≡_, refl, sym, ap, _∙_}
 use mathlib.Core.Bool.{Bool, true, false, cond}
 use mathlib.Core.List.{List, [], _∷_}
 use mathlib.Core.Logic.{⊎-elim}
-use Prim.Native.Nat.{ℕ, _+_, _≤_, _<_}
+use Prim.Native.Nat.{ℕ, _+_, _-_, _≤_, _<_}
 use native.Mathlib.Omega.{arith}
 use lib.ListN.{length, getD, take, drop, length-take, length-drop}
+use lib.Seq.{getD-take}
 use lib.Dec.{eqb}
 use borrow.Author.Tests.{eq-eqb, ne-eqb, eqb-true, eqb-false, le-leb, lt-leb}
 use Rattle.wire.specs.Test.{both}
@@ -17,38 +18,50 @@ use Rattle.wire.specs.declared.Found.{Found}
 use Rattle.wire.specs.declared.Found.the-variants.{At, Nothing}
 use Rattle.wire.proofs.Tests.{split}
 use Rattle.wire.proofs.Fold.{alike-eq, alike-self}
-use Rattle.wire.proofs.Walk.{placed, at-first}
+use Rattle.wire.proofs.Walk.{hit, miss, none-left, placed, none-passes, at-first}
 use Rattle.wire.proofs.Widening.{wide-short, wide-long, one-length}
 use Rattle.attribute.specs.Record.{Entry, entryOf, uuidOf}
 use Rattle.attribute.specs.Lookup.{handleOf, recorded, isWithin, isWanted}
-use Rattle.attribute.specs.Walk.{Parts, shortOf, mayBe, isOf, anyRecord, FirstOf, Picks}
+use Rattle.attribute.specs.Walk.{Parts, shortOf, mayBe, isOf, anyRecord, Picks}
 use Rattle.attribute.specs.declared.Stretch.{Stretch}
 use Rattle.attribute.specs.declared.ShortForm.{ShortForm}
 use Rattle.attribute.proofs.Entries.{low, not-low, outside, inside}
 use Rattle.attribute.proofs.Short.{short, first, second}
 
--- the invariant of a search in a stretch: it has come to place i, and no place before passes
-pub record Searched (test : List ℕ → Bool) (list : List (List ℕ)) (p : Stretch) (i : ℕ) : Type 0 where
-  pub late : p .from ≤ i
-  pub none : (j : ℕ) → p .from ≤ j → j < i → test (getD list j []) ≡ false
+-- the walk along a stretch: a hit, a miss, and the end
+module _ (test : List ℕ → Bool) (list : List (List ℕ)) (to i : ℕ) (inside : to ≤ length list) where
+  short-list : length (take to list) ≡ to
+  short-list = simp length-take (omega arith)
 
-module _ (test : List ℕ → Bool) (list : List (List ℕ)) (p : Stretch) where
-  pub searched-start : Searched test list p (p .from)
-  searched-start = record { late = omega arith; none = λ j a b. absurd (omega arith) }
+  pub stretch-hit : i < to → test (getD list i []) ≡ true → placeFrom test (take to list) i ≡ At i
+  stretch-hit l e = hit test [] (take to list) i (omega (arith, short-list)) (rw (getD-take to list i [] l) e)
 
-  module _ (i : ℕ) (k : Searched test list p i) where
-    pub searched-more : test (getD list i []) ≡ false → Searched test list p (i + 1)
-    searched-more e =
-        record {
-          late = omega (arith, k .late);
-          none = λ j a b. ⊎-elim (λ (m : j < i). k .none j a m) (λ (m : i ≤ j). let q : j ≡ i = omega arith in rw q e) (split j i);
-        }
+  pub stretch-miss : i < to → test (getD list i []) ≡ false → placeFrom test (take to list) i ≡ placeFrom test (take to list) (i + 1)
+  stretch-miss l e = miss test [] (take to list) i (omega (arith, short-list)) (rw (getD-take to list i [] l) e)
 
-    pub searched-hit : test (getD list i []) ≡ true → FirstOf test list p i
-    searched-hit e = record { late = k .late; none = k .none; hit = λ l. e }
+  pub stretch-end : to ≤ i → placeFrom test (take to list) i ≡ Nothing
+  stretch-end l = none-left test [] (take to list) i (omega (arith, short-list))
 
-    pub searched-end : p .to ≤ i → FirstOf test list p i
-    searched-end e = record { late = k .late; none = k .none; hit = λ l. absurd (omega arith) }
+-- what it finds is in the stretch, of the type, and the first
+module _ (test : List ℕ → Bool) (list : List (List ℕ)) (to from : ℕ) (inside : to ≤ length list) where
+  whole : length (take to list) ≡ to
+  whole = short-list test list to from inside
+
+  module _ (r : ℕ) (e : placeFrom test (take to list) from ≡ At r) where
+    pub found-late : from ≤ r
+    found-late = placed test [] (take to list) from r e .late
+
+    pub found-early : r < to
+    found-early = omega (arith, placed test [] (take to list) from r e .inside, whole)
+
+    found-passes : test (getD list r []) ≡ true
+    found-passes = rw (getD-take to list r [] found-early) at (placed test [] (take to list) from r e .passes)
+
+    found-none : (j : ℕ) → from ≤ j → j < r → test (getD list j []) ≡ false
+    found-none j a b = rw (getD-take to list j [] (omega (arith, found-early))) at (placed test [] (take to list) from r e .first j a b)
+
+  no-hit : placeFrom test (take to list) from ≡ Nothing → (j : ℕ) → from ≤ j → j < to → test (getD list j []) ≡ false
+  no-hit e j a b = rw (getD-take to list j [] b) at (none-passes test [] (take to list) (to - from) from (omega (arith, whole)) e j a (omega (arith, whole)))
 
 -- the walk finds nothing where nothing passes
 nowhere : (p : List ℕ → Bool) (list : List (List ℕ)) → ((j : ℕ) → j < length list → p (getD list j []) ≡ false) → placeFrom p list 0 ≡ Nothing
@@ -117,25 +130,25 @@ module _ (list : List (List ℕ)) (start end : ℕ) (p : Stretch) (a : Parts lis
     pub picks-type : Picks (isWanted start end u) (isOf u) list (p .from) (p .to)
     picks-type = record { before = wanted; behind = unwanted-behind }
 
-    module _ (r : ℕ) (k : FirstOf (isOf u) list p r) where
-      passed : (j : ℕ) → j < r → j < length list → isWanted start end u (entryOf (getD list j [])) ≡ false
-      passed j m l =
-          ⊎-elim
-          (λ (x : j < p .from). unwanted-before j x)
-          (λ (x : p .from ≤ j). ⊎-elim (λ (y : j < p .to). wanted j x y ∙ k .none j x m) (λ (y : p .to ≤ j). unwanted-behind j y l) (split j (p .to)))
-          (split j (p .from))
+    pub first-wanted : (r : ℕ) → placeFrom (isOf u) (take (p .to) list) (p .from) ≡ At r → placeFrom (recorded (isWanted start end u)) list 0 ≡ At r
+    first-wanted r e =
+        let t = found-early (isOf u) list (p .to) (p .from) (b .inside) r e in
+        at-first (recorded (isWanted start end u)) [] list r 0 r (omega arith) (omega (arith, b .inside))
+        (λ j x y.
+        ⊎-elim
+        (λ (m : j < p .from). unwanted-before j m)
+        (λ (m : p .from ≤ j). wanted j m (omega arith) ∙ found-none (isOf u) list (p .to) (p .from) (b .inside) r e j m y)
+        (split j (p .from)))
+        (wanted r (found-late (isOf u) list (p .to) (p .from) (b .inside) r e) t ∙ found-passes (isOf u) list (p .to) (p .from) (b .inside) r e)
 
-      pub first-wanted : r < p .to → placeFrom (recorded (isWanted start end u)) list 0 ≡ At r
-      first-wanted l =
-          let m : r < length list = omega (arith, b .inside) in
-          at-first (recorded (isWanted start end u)) [] list r 0 r (omega arith) m
-          (λ j x y. passed j y (omega arith))
-          (wanted r (k .late) l ∙ k .hit l)
-
-      pub none-wanted : p .to ≤ r → placeFrom (recorded (isWanted start end u)) list 0 ≡ Nothing
-      none-wanted l =
-          nowhere (recorded (isWanted start end u)) list
-          (λ j m. ⊎-elim (λ (x : j < p .to). passed j (omega arith) m) (λ (x : p .to ≤ j). unwanted-behind j x m) (split j (p .to)))
+    pub none-wanted : placeFrom (isOf u) (take (p .to) list) (p .from) ≡ Nothing → placeFrom (recorded (isWanted start end u)) list 0 ≡ Nothing
+    none-wanted e =
+        nowhere (recorded (isWanted start end u)) list
+        (λ j l.
+        ⊎-elim
+        (λ (m : j < p .from). unwanted-before j m)
+        (λ (m : p .from ≤ j). ⊎-elim (λ (y : j < p .to). wanted j m y ∙ no-hit (isOf u) list (p .to) (p .from) (b .inside) e j m y) (λ (y : p .to ≤ j). unwanted-behind j y l) (split j (p .to)))
+        (split j (p .from)))
 
 -- the short form of a UUID of two bytes, and of the Base UUID with two bytes in it
 same-is : (u v : List ℕ) → sameUuid u v ≡ alike (wide u) (wide v)

@@ -1,4 +1,4 @@
--- The walks of list answers: the places of a range, and the first of them with an entry of a type. Assumes nothing.
+-- The walks of list answers: the places of a range, and the entries of a type. Assumes nothing.
 use Prim.Native.Nat.{ℕ, _≤_, _<_}
 use mathlib.Core.Path.{_≡_}
 use mathlib.Core.Bool.{Bool, true, false, cond}
@@ -10,7 +10,6 @@ use Rattle.wire.specs.Number.{word}
 use Rattle.wire.specs.Uuid.{sameUuid}
 use Rattle.attribute.specs.Record.{Entry, entryOf, uuidOf}
 use Rattle.attribute.specs.Lookup.{handleOf}
-use Rattle.attribute.specs.declared.Stretch.{Stretch}
 use Rattle.attribute.specs.declared.ShortForm.{ShortForm}
 
 -- place p parts the list at a handle: before it every handle is below, and from it on none is
@@ -37,12 +36,6 @@ isOf u r = sameUuid (uuidOf r) u
 -- every record
 abbrev pub anyRecord : List ℕ → Bool
 anyRecord r = true
-
--- r is the first of the places whose record passes a test, or no such place is before it
-pub record FirstOf (test : List ℕ → Bool) (list : List (List ℕ)) (p : Stretch) (r : ℕ) : Type 0 where
-  pub late : p .from ≤ r
-  pub none : (j : ℕ) → p .from ≤ j → j < r → test (getD list j []) ≡ false
-  pub hit : r < p .to → test (getD list r []) ≡ true
 
 -- from place i on, a test of entries passes those before place `to` whose record passes another
 pub record Picks (want : Entry → Bool) (test : List ℕ → Bool) (list : List (List ℕ)) (i to : ℕ) : Type 0 where

@@ -5,9 +5,10 @@ ghost use mathlib.Core.Path.{_≡_};
 ghost use mathlib.Core.Bool.{false};
 ghost use mathlib.Core.List.{[]};
 ghost use Prim.Native.Nat.{_+_, _≤_, _<_};
-ghost use lib.ListN.{length, getD};
+ghost use lib.ListN.{length, getD, take};
+ghost use Rattle.wire.specs.Walk.{placeFrom};
 ghost use Rattle.attribute.specs.Lookup.{placeOf, Ascends};
-ghost use Rattle.attribute.specs.Walk.{Parts, shortOf, mayBe, isOf, FirstOf};
+ghost use Rattle.attribute.specs.Walk.{Parts, shortOf, mayBe, isOf};
 use crate::ShortForm;
 use crate::Stretch;
 use crate::inner;
@@ -118,44 +119,44 @@ pub fn may_be(list: &[[u8; 32]], i: usize, value: u16) -> bool
     wire::inner::get(&list[i], 12) == value
 }
 
-// The first of the places whose entry is of a type that has this short form; or a place behind them.
-fn find_short(list: &[[u8; 32]], p: Stretch, value: u16, uuid: &[u8]) -> usize
+// The first place of a stretch whose entry is of a type that has this short form.
+fn find_short(list: &[[u8; 32]], p: Stretch, value: u16, uuid: &[u8]) -> Found
     requires { ⌜ (p .to ≤ length (now list)) × (value ≡ shortOf (now uuid) .value) ⌝ }
-    ensures { λ r. ⌜ FirstOf (isOf (now (uuid .entry))) (now (list .entry)) p r ⌝ }
+    ensures { λ r. ⌜ r ≡ placeFrom (isOf (now (uuid .entry))) (take (p .to) (now (list .entry))) (p .from) ⌝ }
 {
     let mut i = p.from;
     while i < p.to {
         if may_be(list, i, value) {
             if inner::is_type(list, i, uuid) {
-                return i;
+                return Found::At(i);
             }
         }
         i += 1;
     }
-    i
+    Found::Nothing
 }
 
 // The same for a type that has none: only long UUIDs are compared.
-fn find_long(list: &[[u8; 32]], p: Stretch, uuid: &[u8]) -> usize
+fn find_long(list: &[[u8; 32]], p: Stretch, uuid: &[u8]) -> Found
     requires { ⌜ (p .to ≤ length (now list)) × (shortOf (now uuid) .has ≡ false) ⌝ }
-    ensures { λ r. ⌜ FirstOf (isOf (now (uuid .entry))) (now (list .entry)) p r ⌝ }
+    ensures { λ r. ⌜ r ≡ placeFrom (isOf (now (uuid .entry))) (take (p .to) (now (list .entry))) (p .from) ⌝ }
 {
     let mut i = p.from;
     while i < p.to {
         if !inner::is_short(&list[i]) {
             if inner::is_type(list, i, uuid) {
-                return i;
+                return Found::At(i);
             }
         }
         i += 1;
     }
-    i
+    Found::Nothing
 }
 
 // The same for any type, with its short form.
-pub fn find_type(list: &[[u8; 32]], p: Stretch, short: ShortForm, uuid: &[u8]) -> usize
+pub fn find_type(list: &[[u8; 32]], p: Stretch, short: ShortForm, uuid: &[u8]) -> Found
     requires { ⌜ (p .to ≤ length (now list)) × (short ≡ shortOf (now uuid)) ⌝ }
-    ensures { λ r. ⌜ FirstOf (isOf (now (uuid .entry))) (now (list .entry)) p r ⌝ }
+    ensures { λ r. ⌜ r ≡ placeFrom (isOf (now (uuid .entry))) (take (p .to) (now (list .entry))) (p .from) ⌝ }
 {
     if short.has {
         return find_short(list, p, short.value, uuid);

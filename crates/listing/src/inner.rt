@@ -22,6 +22,7 @@ use model::Form;
 use model::Range;
 use values::Located;
 use values::Span;
+use wire::Found;
 use wire::cursor::WriteCursor;
 use wire::least;
 
@@ -183,10 +184,9 @@ fn read_by(
     }
     let short = attribute::walk::short_of(uuid);
     let p = attribute::walk::stretch(list, g.start, g.end);
-    let first = attribute::walk::find_type(list, p, short, uuid);
-    if p.to <= first {
+    let Found::At(first) = attribute::walk::find_type(list, p, short, uuid) else {
         return response::inner::error_response(out, form.op, g.start, 0x0A);
-    }
+    };
     match values::inner::locate_at(list, table, link, first) {
         Located::Not(code) => {
             let h = attribute::inner::handle_at(list, first);

@@ -1,22 +1,24 @@
--- `attribute::walk::find_long` meets its contract. The invariant: no entry before place i is of the type. Assumes nothing.
-use mathlib.Core.Path.{sym, _∙_}
+-- `attribute::walk::find_long` meets its contract. The invariant is residual: what is left of the walk answers as the whole does. Assumes nothing.
+use mathlib.Core.Path.{_≡_, refl, sym, _∙_}
 use mathlib.Core.Logic.{⊎-elim}
 use borrow.Author.Tests.{eqb-true, not-false}
 use Prim.Native.Nat.{_-_}
+use lib.ListN.{take}
+use Rattle.wire.specs.Walk.{placeFrom}
 use Rattle.attribute.specs.Walk.{isOf}
-use Rattle.attribute.proofs.Walks.{Searched, searched-start, searched-more, searched-hit, searched-end, long-not}
+use Rattle.attribute.proofs.Walks.{stretch-hit, stretch-miss, stretch-end, long-not}
 use native.Mathlib.Omega.{arith}
 use Rattle.attribute.proofs.walk.find_long.Statement.{statement}
 use Rattle.attribute.proofs.walk.find_long.Tie as tie
 
 abbrev Inv-loop : tie.InvT-loop
-Inv-loop list p uuid i₀ i = Searched (isOf uuid) list p i
+Inv-loop list p uuid i₀ i = placeFrom (isOf uuid) (take (p .to) list) i ≡ placeFrom (isOf uuid) (take (p .to) list) (p .from)
 
 abbrev μ-loop : tie.MeasureT-loop
 μ-loop list p uuid i₀ i = p .to - i
 
 loop-holds : tie.Need-loop-holds Inv-loop μ-loop
-loop-holds c = searched-start _ _ _
+loop-holds c = refl
 
 mul-is-short : tie.Need-mul-is-short Inv-loop μ-loop
 mul-is-short c = omega arith
@@ -31,7 +33,7 @@ is-type-requires : tie.Need-is-type-requires Inv-loop μ-loop
 is-type-requires c κs = omega arith
 
 returns : tie.Need-returns Inv-loop μ-loop
-returns c = searched-hit _ _ _ _ (c .before .before .before .before .before .before .before .before .loop .inv) (sym (c .before .is-type .ensures) ∙ c .if3 .taken)
+returns c = sym (stretch-hit (isOf _) (c .before .before .before .before .before .before .before .before .before .before .args .list .now) _ _ (c .before .before .before .before .before .before .before .before .before .before .pre .0) (c .before .before .before .before .before .before .if1 .taken) (sym (c .before .is-type .ensures) ∙ c .if3 .taken)) ∙ c .before .before .before .before .before .before .before .before .loop .inv
 
 add-i : tie.Need-add-i Inv-loop μ-loop
 add-i c = omega arith
@@ -41,14 +43,16 @@ loop-less c = omega arith
 
 loop-again : tie.Need-loop-again Inv-loop μ-loop
 loop-again c =
-    searched-more _ _ _ _ (c .before .before .before .before .before .before .loop .inv)
+    sym
+    (stretch-miss (isOf _) (c .before .before .before .before .before .before .before .before .args .list .now) _ _ (c .before .before .before .before .before .before .before .before .pre .0) (c .before .before .before .before .if1 .taken)
     (⊎-elim
     (λ w. sym (w .1 .ensures) ∙ w .2 .left)
     (λ w. long-not _ _ (is-short-requires (c .before .before) (c .before .is-short .lifetimes)) (eqb-true _ 2 (sym (c .before .is-short .ensures) ∙ not-false _ (w .left))) (c .before .before .before .before .before .before .before .before .pre .1))
-    (c .if2 .came))
+    (c .if2 .came)))
+    ∙ c .before .before .before .before .before .before .loop .inv
 
 returns-2 : tie.Need-returns-2 Inv-loop μ-loop
-returns-2 c = searched-end _ _ _ _ (c .before .before .loop .inv) (c .if1 .left)
+returns-2 c = sym (stretch-end (isOf _) (c .before .before .before .before .args .list .now) _ _ (c .before .before .before .before .pre .0) (c .if1 .left)) ∙ c .before .before .loop .inv
 
 pub find-long-spec : {M : Type 1} → statement M
 find-long-spec =
