@@ -14,11 +14,10 @@ use Rattle.wire.specs.Number.{word, wordBytes}
 use Rattle.wire.specs.Bytes.{alike}
 use Rattle.wire.specs.Uuid.{based, wide, sameUuid}
 use Rattle.wire.specs.Walk.{placeFrom}
-use Rattle.wire.specs.declared.Found.{Found}
 use Rattle.wire.specs.declared.Found.the-variants.{At, Nothing}
 use Rattle.wire.proofs.Tests.{split}
 use Rattle.wire.proofs.Fold.{alike-eq, alike-self}
-use Rattle.wire.proofs.Walk.{hit, miss, none-left, placed, none-passes, at-first}
+use Rattle.wire.proofs.Walk.{hit, miss, none-left, placed, none-passes, at-first, nowhere}
 use Rattle.wire.proofs.Widening.{wide-short, wide-long, one-length}
 use Rattle.attribute.specs.Record.{Entry, entryOf, uuidOf}
 use Rattle.attribute.specs.Lookup.{handleOf, recorded, isWithin, isWanted}
@@ -63,17 +62,6 @@ module _ (test : List ℕ → Bool) (list : List (List ℕ)) (to from : ℕ) (in
   no-hit : placeFrom test (take to list) from ≡ Nothing → (j : ℕ) → from ≤ j → j < to → test (getD list j []) ≡ false
   no-hit e j a b = rw (getD-take to list j [] b) at (none-passes test [] (take to list) (to - from) from (omega (arith, whole)) e j a (omega (arith, whole)))
 
--- the walk finds nothing where nothing passes
-nowhere : (p : List ℕ → Bool) (list : List (List ℕ)) → ((j : ℕ) → j < length list → p (getD list j []) ≡ false) → placeFrom p list 0 ≡ Nothing
-nowhere p list f = by (placeFrom p list 0) refl
-  where
-    by : (r : Found) → placeFrom p list 0 ≡ r → r ≡ Nothing
-    by (At i) e =
-        let w = placed p [] list 0 i e in
-        let q : _≡_ {A = ℕ} 0 1 = cc (sym (f i (w .inside)) ∙ w .passes) in
-        absurd (omega arith)
-    by Nothing e = refl
-
 -- a test that picks from one place on picks from a later one on
 pub picks-later : (want : Entry → Bool) (test : List ℕ → Bool) (list : List (List ℕ)) (i j to : ℕ) → i ≤ j → Picks want test list i to → Picks want test list j to
 picks-later want test list i j to h k = record { before = λ n a b. k .before n (omega arith) b; behind = k .behind }
@@ -114,7 +102,7 @@ module _ (list : List (List ℕ)) (start end : ℕ) (p : Stretch) (a : Parts lis
       (within (p .from) (omega arith) l)
 
   pub none-within : p .to ≤ p .from → placeFrom (recorded (isWithin start end)) list 0 ≡ Nothing
-  none-within l = nowhere (recorded (isWithin start end)) list (λ j m. ⊎-elim (λ (x : j < p .from). without-before j x) (λ (x : p .from ≤ j). without-behind j (omega arith) m) (split j (p .from)))
+  none-within l = nowhere (recorded (isWithin start end)) [] list 0 (λ j z m. ⊎-elim (λ (x : j < p .from). without-before j x) (λ (x : p .from ≤ j). without-behind j (omega arith) m) (split j (p .from)))
 
   -- and those of a type among them
   module _ (u : List ℕ) where
@@ -143,8 +131,8 @@ module _ (list : List (List ℕ)) (start end : ℕ) (p : Stretch) (a : Parts lis
 
     pub none-wanted : placeFrom (isOf u) (take (p .to) list) (p .from) ≡ Nothing → placeFrom (recorded (isWanted start end u)) list 0 ≡ Nothing
     none-wanted e =
-        nowhere (recorded (isWanted start end u)) list
-        (λ j l.
+        nowhere (recorded (isWanted start end u)) [] list 0
+        (λ j z l.
         ⊎-elim
         (λ (m : j < p .from). unwanted-before j m)
         (λ (m : p .from ≤ j). ⊎-elim (λ (y : j < p .to). wanted j m y ∙ no-hit (isOf u) list (p .to) (p .from) (b .inside) e j m y) (λ (y : p .to ≤ j). unwanted-behind j y l) (split j (p .to)))
