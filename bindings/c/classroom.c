@@ -25,10 +25,9 @@ static struct classroom {
     uint8_t out[ROPETHATCH_TABLE_SIZE]; /* AS_LENT before each call; a response gets its first MTU bytes */
 } hub, before;
 
-/* How the argument list of each call begins: the store is lent by its count alone, or its bytes too. */
-#define HUB hub.slots, ROPETHATCH_SLOTS, hub.list, RECORDS, STORE, hub.tables, ROPETHATCH_SLOTS
-#define HUB_AND_STORE hub.slots, ROPETHATCH_SLOTS, hub.list, RECORDS, hub.store, STORE, hub.tables, ROPETHATCH_SLOTS
-#define HUB_OF_SEVEN hub.slots, 7, hub.list, RECORDS, STORE, hub.tables, ROPETHATCH_SLOTS
+/* How the argument list of each call begins. */
+#define HUB hub.slots, ROPETHATCH_SLOTS, hub.list, RECORDS, hub.store, STORE, hub.tables, ROPETHATCH_SLOTS
+#define HUB_OF_SEVEN hub.slots, 7, hub.list, RECORDS, hub.store, STORE, hub.tables, ROPETHATCH_SLOTS
 
 static void put_u16(uint8_t *at, unsigned number)
 {
@@ -176,7 +175,7 @@ static void expect_refused(const char *what, ropethatch_reply reply, unsigned nu
 static ropethatch_reply request(struct link *link, uint8_t op, uint16_t handle, uint16_t other, const void *data, size_t data_count)
 {
     ropethatch_request rq = {op, handle, other, 0};
-    return ropethatch_process(HUB_AND_STORE, link->who, link->level, &link->prepared, link->bytes, rq, data, data_count, hub.out, MTU);
+    return ropethatch_process(HUB, link->who, link->level, &link->prepared, link->bytes, rq, data, data_count, hub.out, MTU);
 }
 
 static ropethatch_reply read_request(struct link *link, uint16_t handle)
@@ -227,7 +226,7 @@ int main(void)
     expect_value("Anna reads 9, which is not listed", read_request(&hub.anna, ABSENT), "\x01\x0A\x09\x00\x0A", 5);
 
     /* A response buffer that is a byte too short. */
-    reply = ropethatch_process(HUB_AND_STORE, anna, ROPETHATCH_LEVEL_ENCRYPTED, &hub.anna.prepared, hub.anna.bytes,
+    reply = ropethatch_process(HUB, anna, ROPETHATCH_LEVEL_ENCRYPTED, &hub.anna.prepared, hub.anna.bytes,
                                (ropethatch_request){ROPETHATCH_OP_READ, CODE, 0, 0}, ROPETHATCH_NO_BYTES, 0, hub.out, MTU - 1);
     expect_refused("Anna reads 5 into a buffer of 22 bytes", reply, ROPETHATCH_REFUSAL_BUFFER);
 
@@ -266,15 +265,15 @@ int main(void)
                  "\x01\x08\x05\x00\x01", 5);
 
     /* The application's own reading and writing. */
-    expect_value("the application gets Ben's 5", ropethatch_get(HUB_AND_STORE, ben, CODE, hub.out, 8), "3E", 2);
-    expect_value("the application gets one byte of it", ropethatch_get(HUB_AND_STORE, ben, CODE, hub.out, 1), "3", 1);
-    expect_done("the application sets 2 to Room 12", ropethatch_set(HUB_AND_STORE, ben, NAME, (const uint8_t *)"Room 12", 7));
+    expect_value("the application gets Ben's 5", ropethatch_get(HUB, ben, CODE, hub.out, 8), "3E", 2);
+    expect_value("the application gets one byte of it", ropethatch_get(HUB, ben, CODE, hub.out, 1), "3", 1);
+    expect_done("the application sets 2 to Room 12", ropethatch_set(HUB, ben, NAME, (const uint8_t *)"Room 12", 7));
     expect_value("Anna reads 2", read_request(&hub.anna, NAME), "\x0B" "Room 12", 8);
-    expect_att("the application sets Ben's 5 to nine bytes",
-               ropethatch_set(HUB_AND_STORE, ben, CODE, (const uint8_t *)"3E1047000", 9), ROPETHATCH_ATT_INVALID_LENGTH);
-    expect_refused("the application gets 9", ropethatch_get(HUB_AND_STORE, ben, ABSENT, hub.out, 8), ROPETHATCH_REFUSAL_HANDLE);
-    expect_refused("the application sets Ben's 3 to one byte",
-                   ropethatch_set(HUB_AND_STORE, ben, SUBSCRIPTION, (const uint8_t *)"\x01", 1), ROPETHATCH_REFUSAL_LENGTH);
+    expect_att("the application sets Ben's 5 to nine bytes", ropethatch_set(HUB, ben, CODE, (const uint8_t *)"3E1047000", 9),
+               ROPETHATCH_ATT_INVALID_LENGTH);
+    expect_refused("the application gets 9", ropethatch_get(HUB, ben, ABSENT, hub.out, 8), ROPETHATCH_REFUSAL_HANDLE);
+    expect_refused("the application sets Ben's 3 to one byte", ropethatch_set(HUB, ben, SUBSCRIPTION, (const uint8_t *)"\x01", 1),
+                   ROPETHATCH_REFUSAL_LENGTH);
 
     /* Anna's table is saved. Her tablet leaves, unbonded, and is forgotten. */
     static const uint8_t table[ROPETHATCH_TABLE_SIZE] = {
@@ -289,7 +288,7 @@ int main(void)
     expect_value("Anna's table is saved", reply, table, sizeof table);
     expect_done("Anna's tablet leaves, unbonded", ropethatch_disconnect(HUB, anna, 0));
     expect_value("Anna reads 5", read_request(&hub.anna, CODE), "\x01\x0A\x05\x00\x0A", 5);
-    expect_att("the application gets Anna's 5", ropethatch_get(HUB_AND_STORE, anna, CODE, hub.out, 8), ROPETHATCH_ATT_NOT_FOUND);
+    expect_att("the application gets Anna's 5", ropethatch_get(HUB, anna, CODE, hub.out, 8), ROPETHATCH_ATT_NOT_FOUND);
     expect_no("should Anna be notified by 3", ropethatch_should_notify(HUB, anna, SUBSCRIPTION));
     expect_nothing("Anna's table is asked for", ropethatch_get_client_att_table(HUB, anna, hub.out));
 

@@ -255,9 +255,8 @@ static ropethatch_prepared *prepared(void)
     return (ropethatch_prepared *)(void *)ranges[PREPARED].at;
 }
 
-/* How the argument list of each call begins: the store is lent by its count alone, or its bytes too. */
-#define HUB slots(), call.slots_count, list(), RECORDS, STORE_SIZE, tables(), call.tables_count
-#define HUB_AND_STORE slots(), call.slots_count, list(), RECORDS, ranges[STORE].at, STORE_SIZE, tables(), call.tables_count
+/* How the argument list of each call begins. */
+#define HUB slots(), call.slots_count, list(), RECORDS, ranges[STORE].at, STORE_SIZE, tables(), call.tables_count
 
 static void put_u16(uint8_t *at, unsigned number)
 {
@@ -473,7 +472,7 @@ static ropethatch_reply ask(void)
 {
     switch (call.kind) {
     case GET:
-        return ropethatch_get(HUB_AND_STORE, call.who, call.handle, call.out->at, call.out->size);
+        return ropethatch_get(HUB, call.who, call.handle, call.out->at, call.out->size);
     case CAN_READ:
         return ropethatch_can_read(HUB, call.who, call.level, call.handle);
     case CAN_WRITE:
@@ -497,12 +496,12 @@ static ropethatch_reply make_call(void)
     case DISCONNECT:
         return ropethatch_disconnect(HUB, call.who, call.bonded);
     case SET:
-        return ropethatch_set(HUB_AND_STORE, call.who, call.handle, call.data->at, call.data->size);
+        return ropethatch_set(HUB, call.who, call.handle, call.data->at, call.data->size);
     case SET_TABLE:
         return ropethatch_set_client_att_table(HUB, call.who, call.data->at, call.data->size);
     case PROCESS:
-        return ropethatch_process(HUB_AND_STORE, call.who, call.level, prepared(), ranges[BYTES].at, call.request, call.data->at,
-                                  call.data->size, call.out->at, call.out->size);
+        return ropethatch_process(HUB, call.who, call.level, prepared(), ranges[BYTES].at, call.request, call.data->at, call.data->size,
+                                  call.out->at, call.out->size);
     default:
         return ask();
     }

@@ -200,26 +200,28 @@ ROPETHATCH_SIZE(ropethatch_table, 640);
 #define ROPETHATCH_NO_BYTES ((const uint8_t *)"")
 
 /* In every call: slots_count and tables_count are 8, list_count is the number of records, store_count the number of bytes in the store.
-   Some calls need no byte of the store and take its count alone. All are refused 1 where what they are lent is not valid. */
+   Every call takes the whole hub, also those that need no byte of the store; what is behind a pointer to const is only read.
+   All are refused 1 where what they are lent is not valid. */
 
 /* Opens a hub: writes eight empty slots and eight fresh tables for the list. What the slots and tables held before does not matter.
    The store is not touched: set the shared values there before or after.
    DONE; REFUSED 1 (the list breaks a rule that stands at ropethatch_record, or a count is wrong), 6. */
 ropethatch_reply ropethatch_new(ropethatch_slot *slots, size_t slots_count, const ropethatch_record *list, size_t list_count,
-                                size_t store_count, ropethatch_table *tables, size_t tables_count);
+                                const uint8_t *store, size_t store_count, ropethatch_table *tables, size_t tables_count);
 
 /* A tablet has connected. It gets the first slot that is its own or empty; if there is none, the first whose tablet is not connected,
    and that tablet's values are lost. So an empty slot before its own wins, and then it starts with fresh values.
    DONE; REFUSED 1, 3, 7. */
 ropethatch_reply ropethatch_connect(ropethatch_slot *slots, size_t slots_count, const ropethatch_record *list, size_t list_count,
-                                    size_t store_count, ropethatch_table *tables, size_t tables_count, ropethatch_identity who);
+                                    const uint8_t *store, size_t store_count, ropethatch_table *tables, size_t tables_count,
+                                    ropethatch_identity who);
 
 /* A tablet has left. bonded 0: it is forgotten, its slot emptied and its values cleared. Any other number: slot and values are kept
    for its return. A tablet without a slot changes nothing, and that is DONE too. Its prepared write is yours to make zero.
    DONE; REFUSED 1, 3. */
 ropethatch_reply ropethatch_disconnect(ropethatch_slot *slots, size_t slots_count, const ropethatch_record *list, size_t list_count,
-                                       size_t store_count, ropethatch_table *tables, size_t tables_count, ropethatch_identity who,
-                                       uint8_t bonded);
+                                       const uint8_t *store, size_t store_count, ropethatch_table *tables, size_t tables_count,
+                                       ropethatch_identity who, uint8_t bonded);
 
 /* A request has come in from `who`, over a link of that level. prepared and bytes are the link's own, the same ones in every call.
    data are the bytes that the request brings (ROPETHATCH_NO_BYTES, 0 if none). The response is written to out; lend as many bytes as
@@ -250,35 +252,38 @@ ropethatch_reply ropethatch_set(const ropethatch_slot *slots, size_t slots_count
    DONE (it may); ATT 0x01 (no such handle, or the link is gone), 0x02 (never read), 0x03 (never written), 0x0F (not encrypted),
    0x05 (not authenticated); REFUSED 1, 3. */
 ropethatch_reply ropethatch_can_read(const ropethatch_slot *slots, size_t slots_count, const ropethatch_record *list,
-                                     size_t list_count, size_t store_count, const ropethatch_table *tables, size_t tables_count,
-                                     ropethatch_identity who, uint8_t level, uint16_t handle);
+                                     size_t list_count, const uint8_t *store, size_t store_count, const ropethatch_table *tables,
+                                     size_t tables_count, ropethatch_identity who, uint8_t level, uint16_t handle);
 ropethatch_reply ropethatch_can_write(const ropethatch_slot *slots, size_t slots_count, const ropethatch_record *list,
-                                      size_t list_count, size_t store_count, const ropethatch_table *tables, size_t tables_count,
-                                      ropethatch_identity who, uint8_t level, uint16_t handle);
+                                      size_t list_count, const uint8_t *store, size_t store_count, const ropethatch_table *tables,
+                                      size_t tables_count, ropethatch_identity who, uint8_t level, uint16_t handle);
 
 /* Has the tablet asked for notifications, or for indications, by the client value at the handle (a Client Characteristic Configuration)?
    Yes where it has a slot and a client value of exactly 2 bytes there whose bit 0 (notify) or bit 1 (indicate) is set.
    YES (0!); NO, also for an unlisted handle; REFUSED 1, 3. */
 ropethatch_reply ropethatch_should_notify(const ropethatch_slot *slots, size_t slots_count, const ropethatch_record *list,
-                                          size_t list_count, size_t store_count, const ropethatch_table *tables,
-                                          size_t tables_count, ropethatch_identity who, uint16_t handle);
+                                          size_t list_count, const uint8_t *store, size_t store_count,
+                                          const ropethatch_table *tables, size_t tables_count, ropethatch_identity who,
+                                          uint16_t handle);
 ropethatch_reply ropethatch_should_indicate(const ropethatch_slot *slots, size_t slots_count, const ropethatch_record *list,
-                                            size_t list_count, size_t store_count, const ropethatch_table *tables,
-                                            size_t tables_count, ropethatch_identity who, uint16_t handle);
+                                            size_t list_count, const uint8_t *store, size_t store_count,
+                                            const ropethatch_table *tables, size_t tables_count, ropethatch_identity who,
+                                            uint16_t handle);
 
 /* Copies the tablet's table, to be saved.
    VALUE, always of 640 bytes; NOTHING (the tablet has no slot, and out is as lent); REFUSED 1, 3. */
 ropethatch_reply ropethatch_get_client_att_table(const ropethatch_slot *slots, size_t slots_count, const ropethatch_record *list,
-                                                 size_t list_count, size_t store_count, const ropethatch_table *tables,
-                                                 size_t tables_count, ropethatch_identity who, uint8_t out[640]);
+                                                 size_t list_count, const uint8_t *store, size_t store_count,
+                                                 const ropethatch_table *tables, size_t tables_count, ropethatch_identity who,
+                                                 uint8_t out[640]);
 
 /* Puts the values of a saved table into the tablet's own. It may have been saved under another list: handles that the list does not have
    are passed over, values that are too long are cut, and values that it lacks become zeros. saved may have any length.
    DONE, also where the tablet has no slot and nothing changes; REFUSED 1, 3, 4. */
 ropethatch_reply ropethatch_set_client_att_table(const ropethatch_slot *slots, size_t slots_count, const ropethatch_record *list,
-                                                 size_t list_count, size_t store_count, ropethatch_table *tables,
-                                                 size_t tables_count, ropethatch_identity who, const uint8_t *saved,
-                                                 size_t saved_count);
+                                                 size_t list_count, const uint8_t *store, size_t store_count,
+                                                 ropethatch_table *tables, size_t tables_count, ropethatch_identity who,
+                                                 const uint8_t *saved, size_t saved_count);
 
 #ifdef __cplusplus
 }

@@ -11,20 +11,53 @@ const LEVEL: u8 = 2;
 
 #[inline(never)]
 pub fn counted_new(hub: &mut Ours) -> Reply {
-    let (slots, list, tables) = (hub.slots.as_mut_ptr(), &hub.list, hub.tables.as_mut_ptr());
-    unsafe { ffi::ropethatch_new(slots, 8, list.as_ptr(), list.len(), hub.store.len(), tables, 8) }
+    unsafe {
+        ffi::ropethatch_new(
+            hub.slots.as_mut_ptr(),
+            8,
+            hub.list.as_ptr(),
+            hub.list.len(),
+            hub.store.as_ptr(),
+            hub.store.len(),
+            hub.tables.as_mut_ptr(),
+            8,
+        )
+    }
 }
 
 #[inline(never)]
 pub fn counted_connect(hub: &mut Ours, who: Identity) -> Reply {
-    let (slots, list, tables) = (hub.slots.as_mut_ptr(), &hub.list, hub.tables.as_mut_ptr());
-    unsafe { ffi::ropethatch_connect(slots, 8, list.as_ptr(), list.len(), hub.store.len(), tables, 8, who) }
+    unsafe {
+        ffi::ropethatch_connect(
+            hub.slots.as_mut_ptr(),
+            8,
+            hub.list.as_ptr(),
+            hub.list.len(),
+            hub.store.as_ptr(),
+            hub.store.len(),
+            hub.tables.as_mut_ptr(),
+            8,
+            who,
+        )
+    }
 }
 
 #[inline(never)]
 pub fn counted_disconnect(hub: &mut Ours, who: Identity) -> Reply {
-    let (slots, list, tables) = (hub.slots.as_mut_ptr(), &hub.list, hub.tables.as_mut_ptr());
-    unsafe { ffi::ropethatch_disconnect(slots, 8, list.as_ptr(), list.len(), hub.store.len(), tables, 8, who, 1) }
+    unsafe {
+        ffi::ropethatch_disconnect(
+            hub.slots.as_mut_ptr(),
+            8,
+            hub.list.as_ptr(),
+            hub.list.len(),
+            hub.store.as_ptr(),
+            hub.store.len(),
+            hub.tables.as_mut_ptr(),
+            8,
+            who,
+            1,
+        )
+    }
 }
 
 #[inline(never)]
@@ -101,29 +134,53 @@ pub fn counted_set(hub: &mut Ours, who: Identity, handle: u16, value: &[u8]) -> 
 
 #[inline(never)]
 pub fn counted_can_read(hub: &Ours, who: Identity, handle: u16) -> Reply {
-    let (slots, list, tables) = (hub.slots.as_ptr(), &hub.list, hub.tables.as_ptr());
-    let (entries, store) = (list.len(), hub.store.len());
-    unsafe { ffi::ropethatch_can_read(slots, 8, list.as_ptr(), entries, store, tables, 8, who, LEVEL, handle) }
+    unsafe {
+        ffi::ropethatch_can_read(
+            hub.slots.as_ptr(),
+            8,
+            hub.list.as_ptr(),
+            hub.list.len(),
+            hub.store.as_ptr(),
+            hub.store.len(),
+            hub.tables.as_ptr(),
+            8,
+            who,
+            LEVEL,
+            handle,
+        )
+    }
 }
 
 #[inline(never)]
 pub fn counted_can_write(hub: &Ours, who: Identity, handle: u16) -> Reply {
-    let (slots, list, tables) = (hub.slots.as_ptr(), &hub.list, hub.tables.as_ptr());
-    let (entries, store) = (list.len(), hub.store.len());
-    unsafe { ffi::ropethatch_can_write(slots, 8, list.as_ptr(), entries, store, tables, 8, who, LEVEL, handle) }
+    unsafe {
+        ffi::ropethatch_can_write(
+            hub.slots.as_ptr(),
+            8,
+            hub.list.as_ptr(),
+            hub.list.len(),
+            hub.store.as_ptr(),
+            hub.store.len(),
+            hub.tables.as_ptr(),
+            8,
+            who,
+            LEVEL,
+            handle,
+        )
+    }
 }
 
 #[inline(never)]
 pub fn counted_should_notify(hub: &Ours, who: Identity, handle: u16) -> Reply {
-    let (slots, list, tables) = (hub.slots.as_ptr(), &hub.list, hub.tables.as_ptr());
     unsafe {
         ffi::ropethatch_should_notify(
-            slots,
+            hub.slots.as_ptr(),
             8,
-            list.as_ptr(),
-            list.len(),
+            hub.list.as_ptr(),
+            hub.list.len(),
+            hub.store.as_ptr(),
             hub.store.len(),
-            tables,
+            hub.tables.as_ptr(),
             8,
             who,
             handle,
@@ -133,22 +190,55 @@ pub fn counted_should_notify(hub: &Ours, who: Identity, handle: u16) -> Reply {
 
 #[inline(never)]
 pub fn counted_should_indicate(hub: &Ours, who: Identity, handle: u16) -> Reply {
-    let (slots, list, tables) = (hub.slots.as_ptr(), &hub.list, hub.tables.as_ptr());
-    let (entries, store) = (list.len(), hub.store.len());
-    unsafe { ffi::ropethatch_should_indicate(slots, 8, list.as_ptr(), entries, store, tables, 8, who, handle) }
+    unsafe {
+        ffi::ropethatch_should_indicate(
+            hub.slots.as_ptr(),
+            8,
+            hub.list.as_ptr(),
+            hub.list.len(),
+            hub.store.as_ptr(),
+            hub.store.len(),
+            hub.tables.as_ptr(),
+            8,
+            who,
+            handle,
+        )
+    }
 }
 
 #[inline(never)]
 pub fn counted_get_table(hub: &Ours, who: Identity, out: &mut Table) -> Reply {
-    let (slots, list, tables) = (hub.slots.as_ptr(), &hub.list, hub.tables.as_ptr());
-    let (entries, store) = (list.len(), hub.store.len());
-    unsafe { ffi::ropethatch_get_client_att_table(slots, 8, list.as_ptr(), entries, store, tables, 8, who, out) }
+    unsafe {
+        ffi::ropethatch_get_client_att_table(
+            hub.slots.as_ptr(),
+            8,
+            hub.list.as_ptr(),
+            hub.list.len(),
+            hub.store.as_ptr(),
+            hub.store.len(),
+            hub.tables.as_ptr(),
+            8,
+            who,
+            out,
+        )
+    }
 }
 
 #[inline(never)]
 pub fn counted_set_table(hub: &mut Ours, who: Identity, saved: &[u8]) -> Reply {
-    let (slots, list, tables) = (hub.slots.as_ptr(), &hub.list, hub.tables.as_mut_ptr());
-    let (entries, store) = (list.len(), hub.store.len());
-    let (at, len) = (saved.as_ptr(), saved.len());
-    unsafe { ffi::ropethatch_set_client_att_table(slots, 8, list.as_ptr(), entries, store, tables, 8, who, at, len) }
+    unsafe {
+        ffi::ropethatch_set_client_att_table(
+            hub.slots.as_ptr(),
+            8,
+            hub.list.as_ptr(),
+            hub.list.len(),
+            hub.store.as_ptr(),
+            hub.store.len(),
+            hub.tables.as_mut_ptr(),
+            8,
+            who,
+            saved.as_ptr(),
+            saved.len(),
+        )
+    }
 }

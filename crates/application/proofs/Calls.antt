@@ -14,10 +14,11 @@ use Rattle.attribute.specs.declared.Attribute.{Attribute}
 use Rattle.attribute.specs.declared.Access.{Access}
 use Rattle.reading.specs.Copy.{copiedOf, copyOf}
 use Rattle.reading.specs.declared.Copied.{Copied}
+use Rattle.state.specs.State.{Becomes}
 use Rattle.model.specs.Value.{Got, Bytes, Code, readOf, writeOf}
 use Rattle.model.specs.View.{tableAt}
 use Rattle.model.specs.Told.{toldAnswer, Answered}
-use Rattle.model.specs.Change.{lent, Left, putAt}
+use Rattle.model.specs.Change.{putAt}
 use Rattle.model.specs.declared.Answer.{Answer}
 use Rattle.model.specs.declared.Answer.the-variants as answer
 use Rattle.model.proofs.Sending.{answered}
@@ -52,17 +53,20 @@ module _ (a b : Attribute) (is : a ≡ b) (n : ℕ) where
 
 -- `set`
 module _ (list : List (List ℕ)) (store : List ℕ) (ts : List (List ℕ)) (slot : Found) (f : Found) (d : List ℕ) where
-  pub nothing-set : f ≡ Nothing
-      → (toldAnswer [] answer.NoHandle ≡ storeTold list store (tableAt ts slot) f (length d)) × Left (storeLeft (lent list store ts) slot f d) list store ts
-  nothing-set e = rw e (refl, record { list-is = refl; store-is = refl; tables-are = refl })
+  -- what is told and what stands afterwards, with this answer
+  abbrev pub Set : Answer → List (List ℕ) → List ℕ → List (List ℕ) → Type 0
+  Set r list′ store′ ts′ =
+      (toldAnswer [] r ≡ storeTold list store (tableAt ts slot) f (length d)) × Becomes (λ s. storeLeft s slot f d) list store ts list′ store′ ts′
+
+  pub nothing-set : f ≡ Nothing → Set answer.NoHandle list store ts
+  nothing-set e = rw e (refl, λ row. refl)
 
   module _ (i : ℕ) (e : f ≡ At i) where
-    pub wrong-length : true ≡ isWrongLength (attributeOf (getD list i [])) (length d)
-        → (toldAnswer [] answer.WrongLength ≡ storeTold list store (tableAt ts slot) f (length d)) × Left (storeLeft (lent list store ts) slot f d) list store ts
-    wrong-length w = rw (e, ← w) (refl, record { list-is = refl; store-is = refl; tables-are = refl })
+    pub wrong-length : true ≡ isWrongLength (attributeOf (getD list i [])) (length d) → Set answer.WrongLength list store ts
+    wrong-length w = rw (e, ← w) (refl, λ row. refl)
 
     pub value-set : false ≡ isWrongLength (attributeOf (getD list i [])) (length d) → (w : Access) (r : Answer) (list′ : List (List ℕ)) (store′ : List ℕ) (ts′ : List (List ℕ))
         → toldAnswer [] r ≡ toldAccess w
-        → (w ≡ writeOf store (tableAt ts slot) (attributeOf (getD list i [])) 0 (length d)) × Left (putAt (lent list store ts) slot i 0 d) list′ store′ ts′
-        → (toldAnswer [] r ≡ storeTold list store (tableAt ts slot) f (length d)) × Left (storeLeft (lent list store ts) slot f d) list′ store′ ts′
+        → (w ≡ writeOf store (tableAt ts slot) (attributeOf (getD list i [])) 0 (length d)) × Becomes (λ s. putAt s slot i 0 d) list store ts list′ store′ ts′
+        → Set r list′ store′ ts′
     value-set w u r list′ store′ ts′ t p = rw (e, ← w) (t ∙ rw (p .0), p .1)

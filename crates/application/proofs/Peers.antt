@@ -8,6 +8,7 @@ use lib.Dec.{eqb}
 use lib.ListN.{length, getD, set}
 use lib.Seq.{sets}
 use borrow.Author.Tests.{eq-eqb, ne-eqb}
+use Rattle.wire.specs.Size.{tableBytes}
 use Rattle.wire.specs.First.{first}
 use Rattle.wire.specs.Number.{word}
 use Rattle.wire.specs.declared.Found.{Found}
@@ -57,10 +58,10 @@ module _ (ts : List (List ℕ)) (slot : Found) (h bit : ℕ) where
 
 -- the table copied out
 module _ (ts : List (List ℕ)) (slot : Found) (old : List ℕ) where
-  pub table-copied : (k : ℕ) → slot ≡ At k → length (getD ts k []) ≡ 640 → length old ≡ 640 → (new : List ℕ) → new ≡ sets old 0 (getD ts k [])
-      → Answered old new (answer.Value 640) (tableTold ts slot)
+  pub table-copied : (k : ℕ) → slot ≡ At k → length (getD ts k []) ≡ tableBytes → length old ≡ tableBytes → (new : List ℕ) → new ≡ sets old 0 (getD ts k [])
+      → Answered old new (answer.Value tableBytes) (tableTold ts slot)
   table-copied k e n m new s =
-      rw e (answered old new 640 (getD ts k []) (record { size = sym n; fits = omega arith; bytes = s }))
+      rw e (answered old new tableBytes (getD ts k []) (record { size = sym n; fits = omega arith; bytes = s }))
 
 -- the saved values taken in
 module _ (ts : List (List ℕ)) (slot : Found) (saved : List ℕ) where

@@ -14,10 +14,11 @@ use Rattle.client_att_table.specs.SetValues.{afterSet}
 use Rattle.attribute.specs.Record.{attributeOf}
 use Rattle.attribute.specs.Needs.{toldAccess}
 use Rattle.attribute.specs.declared.Attribute.{Attribute}
+use Rattle.state.specs.State.{State}
 use Rattle.reading.specs.declared.Copied.{Copied}
 use Rattle.reading.specs.declared.Copied.the-variants as copied
 use Rattle.model.specs.Value.{Got, Bytes, Code, readOf, writeOf}
-use Rattle.model.specs.Change.{Lent, putAt}
+use Rattle.model.specs.Change.{putAt}
 use Rattle.model.specs.declared.Answer.{Answer}
 use Rattle.model.specs.declared.Answer.the-variants as answer
 
@@ -45,7 +46,7 @@ storeTold list store table (At i) n =
     let a = attributeOf (getD list i []) in
     cond (isWrongLength a n) (refused 9) (toldAccess (writeOf store table a 0 n))
 
-abbrev pub storeLeft : Lent → Found → Found → List ℕ → Lent
+abbrev pub storeLeft : State → Found → Found → List ℕ → State
 storeLeft s slot Nothing d = s
 storeLeft s slot (At i) d = cond (isWrongLength (attributeOf (getD (s .list) i [])) (length d)) s (putAt s slot i 0 d)
 

@@ -4,13 +4,14 @@ ghost use mathlib.Core.Bool.{true};
 ghost use mathlib.Core.List.{[]};
 ghost use Prim.Native.Nat.{_<_};
 ghost use lib.ListN.{length, getD};
+ghost use Rattle.wire.specs.Size.{tableBytes};
 ghost use Rattle.table_view.specs.Rules.{accepts};
 ghost use Rattle.attribute.specs.Record.{attributeOf};
 ghost use Rattle.attribute.specs.Lookup.{placeOf};
 ghost use Rattle.attribute.specs.Needs.{toldAccess};
+ghost use Rattle.state.specs.State.{Becomes};
 ghost use Rattle.model.specs.View.{tableAt};
 ghost use Rattle.model.specs.Told.{toldAnswer, Answered};
-ghost use Rattle.model.specs.Change.{lent, Left};
 ghost use Rattle.storing.specs.Ready.{SlotReady, Ready};
 ghost use Rattle.application.specs.Calls.{answerCopied, isWrongLength, fetchTold, storeTold, storeLeft, isSubscribed, tableTold, restoreTold, restored};
 use attribute::Access;
@@ -18,6 +19,9 @@ use model::Answer;
 use reading::Copied;
 use table_view::Key;
 use wire::Found;
+use wire::sizes::Record;
+use wire::sizes::TABLE_SIZE;
+use wire::sizes::Table;
 
 fn copied(c: Copied) -> Answer
     ensures { λ r. ⌜ r ≡ answerCopied c ⌝ }
@@ -40,9 +44,9 @@ pub fn accessed(a: Access) -> Answer
 
 // Copies the value under a handle out, as much as the buffer can take.
 pub fn get(
-    list: &[[u8; 32]],
+    list: &[Record],
     store: &[u8],
-    tables: &[[u8; 640]],
+    tables: &[Table],
     slot: Found,
     handle: u16,
     out: &mut [u8],
@@ -60,7 +64,7 @@ pub fn get(
 }
 
 // Whether so many bytes are another length than a fixed value has.
-fn is_wrong_length(list: &[[u8; 32]], i: usize, n: usize) -> bool
+fn is_wrong_length(list: &[Record], i: usize, n: usize) -> bool
     requires { ⌜ i < length (now list) ⌝ }
     ensures { λ r. ⌜ r ≡ isWrongLength (attributeOf (getD (now (list .entry)) i [])) n ⌝ }
 {
@@ -73,16 +77,16 @@ fn is_wrong_length(list: &[[u8; 32]], i: usize, n: usize) -> bool
 
 // Sets the value under a handle.
 pub fn set(
-    list: &mut [[u8; 32]],
+    list: &mut [Record],
     store: &mut [u8],
-    tables: &mut [[u8; 640]],
+    tables: &mut [Table],
     slot: Found,
     handle: u16,
     d: &[u8],
 ) -> Answer
     requires { ⌜ Ready (now list) (length (now store)) (now tables) slot ⌝ }
     ensures { λ r. ⌜ (toldAnswer [] r ≡ storeTold (now (list .entry)) (now (store .entry)) (tableAt (now (tables .entry)) slot) (placeOf (now (list .entry)) handle) (length (now (d .entry))))
-        × Left (storeLeft (lent (now (list .entry)) (now (store .entry)) (now (tables .entry))) slot (placeOf (now (list .entry)) handle) (now (d .entry))) (now (list .exit)) (now (store .exit)) (now (tables .exit)) ⌝ }
+        × Becomes (λ s. storeLeft s slot (placeOf (now (list .entry)) handle) (now (d .entry))) (now (list .entry)) (now (store .entry)) (now (tables .entry)) (now (list .exit)) (now (store .exit)) (now (tables .exit)) ⌝ }
 {
     let Found::At(i) = attribute::walk::find_listed(list, handle) else {
         return Answer::NoHandle;
@@ -109,7 +113,7 @@ fn has_bit(table: &[u8], handle: u16, bit: u8) -> bool
 }
 
 // Whether a peer has subscribed to a value: bit 1 to notifications, bit 2 to indications.
-pub fn is_subscribed(tables: &[[u8; 640]], slot: Found, handle: u16, bit: u8) -> bool
+pub fn is_subscribed(tables: &[Table], slot: Found, handle: u16, bit: u8) -> bool
     requires { ⌜ SlotReady (now tables) slot × (0 < bit) ⌝ }
     ensures { λ r. ⌜ r ≡ isSubscribed (tableAt (now (tables .entry)) slot) handle bit ⌝ }
 {
@@ -120,19 +124,19 @@ pub fn is_subscribed(tables: &[[u8; 640]], slot: Found, handle: u16, bit: u8) ->
 }
 
 // Copies the peer's table out.
-pub fn get_client_att_table(tables: &[[u8; 640]], slot: Found, out: &mut [u8]) -> Answer
-    requires { ⌜ SlotReady (now tables) slot × (length (now out) ≡ 640) ⌝ }
+pub fn get_client_att_table(tables: &[Table], slot: Found, out: &mut [u8]) -> Answer
+    requires { ⌜ SlotReady (now tables) slot × (length (now out) ≡ tableBytes) ⌝ }
     ensures { λ r. ⌜ Answered (now (out .entry)) (now (out .exit)) r (tableTold (now (tables .entry)) slot) ⌝ }
 {
     let Found::At(k) = slot else {
         return Answer::Nothing;
     };
     wire::inner::copy(out, 0, &tables[k]);
-    Answer::Value(640)
+    Answer::Value(TABLE_SIZE)
 }
 
 // Puts the values of a saved table into the peer's; without a slot nothing changes.
-pub fn set_client_att_table(tables: &mut [[u8; 640]], slot: Found, saved: &[u8]) -> Answer
+pub fn set_client_att_table(tables: &mut [Table], slot: Found, saved: &[u8]) -> Answer
     requires { ⌜ SlotReady (now tables) slot ⌝ }
     ensures { λ r. ⌜ (toldAnswer [] r ≡ restoreTold (now (saved .entry))) × (now (tables .exit) ≡ restored (now (tables .entry)) slot (now (saved .entry))) ⌝ }
 {

@@ -7,6 +7,7 @@ use native.Mathlib.Omega.{arith}
 use lib.ListN.{length, getD, set, length-set}
 use lib.Dec.{leb, eqb}
 use borrow.Author.Tests.{le-leb, eq-eqb}
+use Rattle.wire.specs.Size.{recordBytes}
 use Rattle.wire.specs.Number.{wordBytes}
 use Rattle.wire.proofs.Tests.{both-l, both-r, both-true}
 use Rattle.wire.proofs.Sets.{past, drop-past, word-before, word-same}
@@ -27,7 +28,7 @@ module _ (r : List ℕ) (n : ℕ) where
   unfolding uuidOf withLength
   uuid-kept = rw (past (wordBytes n) r 6 11 (omega arith), drop-past 12 (wordBytes n) r 6 (omega arith))
 
-  pub fields-kept : length r ≡ 32 → attributeOf (withLength r n) ≡ resized (attributeOf r) n
+  pub fields-kept : length r ≡ recordBytes → attributeOf (withLength r n) ≡ resized (attributeOf r) n
   unfolding attributeOf withLength
   fields-kept l =
       rw (
@@ -41,7 +42,7 @@ module _ (r : List ℕ) (n : ℕ) where
       )
 
   -- and so what every link may know of the entry
-  pub known-kept : length r ≡ 32 → entryOf (withLength r n) ≡ entryOf r
+  pub known-kept : length r ≡ recordBytes → entryOf (withLength r n) ≡ entryOf r
   unfolding entryOf
   known-kept l = rw (fields-kept l, uuid-kept)
 
@@ -53,9 +54,6 @@ pub record Holds (a : Attribute) (n : ℕ) : Type 0 where
 module _ (a : Attribute) (n : ℕ) where
   pub variable-holds : a .variable ≡ true → n ≤ a .cap → Holds a n
   variable-holds v h = record { len = h; fixed = λ (e : a .variable ≡ false). cc }
-
-  pub whole-holds : n ≡ a .cap → Holds a n
-  whole-holds e = record { len = omega arith; fixed = λ _. e }
 
   length-ok : Holds a n → cond (a .variable) (leb n (a .cap)) (eqb n (a .cap)) ≡ true
   length-ok h = by (a .variable) (h .fixed)
@@ -74,7 +72,7 @@ or-else false x y f h = f h
 
 -- an entry that passes still does, and so do those after it
 module _ (store n : ℕ) where
-  entry-kept : (r : List ℕ) → length r ≡ 32 → Holds (attributeOf r) n → (last end : ℕ) → entryOk r last end store ≡ true → entryOk (withLength r n) last end store ≡ true
+  entry-kept : (r : List ℕ) → length r ≡ recordBytes → Holds (attributeOf r) n → (last end : ℕ) → entryOk r last end store ≡ true → entryOk (withLength r n) last end store ≡ true
   unfolding entryOk fieldsOk
   entry-kept r l f last end h =
       let t = both-r _ _ h in
@@ -82,7 +80,7 @@ module _ (store n : ℕ) where
       (both-true _ _ (both-l _ _ h)
       (both-true _ _ (both-l _ _ t) (or-else (attributeOf r .client) _ _ (range-kept (attributeOf r) n f end store) (both-r _ _ t))))
 
-  entries-kept : (list : List (List ℕ)) (i : ℕ) → length (getD list i []) ≡ 32 → Holds (attributeOf (getD list i [])) n → (last end : ℕ) → entriesOk list last end store ≡ true → entriesOk (set list i (withLength (getD list i []) n)) last end store ≡ true
+  entries-kept : (list : List (List ℕ)) (i : ℕ) → length (getD list i []) ≡ recordBytes → Holds (attributeOf (getD list i [])) n → (last end : ℕ) → entriesOk list last end store ≡ true → entriesOk (set list i (withLength (getD list i []) n)) last end store ≡ true
   unfolding entriesOk endAfter
   entries-kept [] i l f last end h = h
   entries-kept (r ∷ rs) zero l f last end h =
@@ -90,7 +88,7 @@ module _ (store n : ℕ) where
   entries-kept (r ∷ rs) (suc i) l f last end h = both-true _ _ (both-l _ _ h) (entries-kept rs i l f _ _ (both-r _ _ h))
 
 -- a right list stays right
-pub length-kept : (list : List (List ℕ)) (store : ℕ) → listOk list store ≡ true → (i n : ℕ) → length (getD list i []) ≡ 32 → Holds (attributeOf (getD list i [])) n → listOk (set list i (withLength (getD list i []) n)) store ≡ true
+pub length-kept : (list : List (List ℕ)) (store : ℕ) → listOk list store ≡ true → (i n : ℕ) → length (getD list i []) ≡ recordBytes → Holds (attributeOf (getD list i [])) n → listOk (set list i (withLength (getD list i []) n)) store ≡ true
 unfolding listOk
 length-kept list store ok i n l f =
     let t = both-r _ _ ok in

@@ -3,6 +3,5 @@ pub mod Entries
 pub mod Short
 pub mod Shape
 pub mod Halves
-pub mod Places
 pub mod Walks
 pub mod Kept

@@ -9,20 +9,21 @@ use lib.ListN.{length, getD, take, drop, drop-of-length-le}
 use lib.Seq.{drop-cons}
 use lib.Dec.{eqb, leb}
 use borrow.Author.Tests.{lt-ltb, le-ltb, le-leb, lt-leb, eq-eqb, ne-eqb}
+use Rattle.wire.specs.Size.{recordBytes, valueBytes}
 use Rattle.wire.specs.Test.{both}
 use Rattle.table_view.proofs.Answers.{part-cut}
 use Rattle.attribute.specs.Record.{attributeOf, uuidOf}
 use Rattle.attribute.specs.Rules.{fieldsOk, rangeOk, entryOk, endAfter, entriesOk, listOk}
-use Rattle.attribute.specs.Needs.{levelOf, accessOf, accessAt}
+use Rattle.attribute.specs.Needs.{levelOf, accessOf, mayDo, accessAt}
 use Rattle.attribute.specs.declared.Attribute.{Attribute}
 use Rattle.attribute.specs.declared.Link.{Link}
-use Rattle.attribute.specs.declared.Access.{Access}
+use Rattle.attribute.specs.declared.Wish.{Wish}
 use Rattle.attribute.specs.declared.Access.the-variants.{Granted, Denied}
 use Rattle.wire.specs.declared.Found.{Found}
 use Rattle.wire.specs.declared.Found.the-variants.{At, Nothing}
 
 -- a UUID is cut to the bytes that a record has
-pub uuid-part : (r : List ℕ) (to : ℕ) → length r ≡ 32 → to ≡ min (12 + getD r 11 0) 32 → take (to - 12) (drop 12 r) ≡ uuidOf r
+pub uuid-part : (r : List ℕ) (to : ℕ) → length r ≡ recordBytes → to ≡ min (12 + getD r 11 0) 32 → take (to - 12) (drop 12 r) ≡ uuidOf r
 unfolding uuidOf
 uuid-part r to l e =
     let k : (12 + getD r 11 0) - 12 ≡ getD r 11 0 = omega arith in
@@ -52,11 +53,11 @@ module _ (link : Link) (never need : ℕ) where
     not-authenticated z e h = rw (ne-eqb (levelOf link) 0 here, ne-eqb need 0 z, lt-leb need (levelOf link) h, ne-eqb need 2 e)
 
 -- the same by handle
-module _ (may : Attribute → Link → Access) (list : List (List ℕ)) (link : Link) (f : Found) where
-  pub absent : f ≡ Nothing → Denied 0x01 ≡ accessAt may list link f
+module _ (wish : Wish) (list : List (List ℕ)) (link : Link) (f : Found) where
+  pub absent : f ≡ Nothing → Denied 0x01 ≡ accessAt wish list link f
   absent e = rw e
 
-  pub listed : (i : ℕ) → f ≡ At i → may (attributeOf (getD list i [])) link ≡ accessAt may list link f
+  pub listed : (i : ℕ) → f ≡ At i → mayDo wish (attributeOf (getD list i [])) link ≡ accessAt wish list link f
   listed i e = rw e
 
 -- the tests of an entry's own fields
@@ -66,11 +67,11 @@ module _ (a : Attribute) (size : ℕ) where
   high-handle h = rw (lt-leb _ _ h)
 
   module _ (f : a .handle ≤ 0x7FFF) where
-    pub high-cap : 512 < a .cap → false ≡ fieldsOk a size
+    pub high-cap : valueBytes < a .cap → false ≡ fieldsOk a size
     unfolding fieldsOk both
     high-cap h = rw (le-leb _ _ f, lt-leb _ _ h)
 
-    module _ (g : a .cap ≤ 512) where
+    module _ (g : a .cap ≤ valueBytes) where
       pub high-reads : 3 < a .reads → false ≡ fieldsOk a size
       unfolding fieldsOk both
       high-reads h = rw (le-leb _ _ f, le-leb _ _ g, lt-leb _ _ h)

@@ -1,6 +1,6 @@
 -- Laws of `specs/Walk.antt`: what a stretch is of a range, and the test by a short form. Assumes nothing.
 use mathlib.Core.Path.{_≡_, refl, sym, ap, _∙_}
-use mathlib.Core.Bool.{Bool, true, false, cond}
+use mathlib.Core.Bool.{Bool, true, false, cond, not}
 use mathlib.Core.List.{List, [], _∷_}
 use mathlib.Core.Logic.{⊎-elim}
 use Prim.Native.Nat.{ℕ, _+_, _-_, _≤_, _<_}
@@ -8,7 +8,8 @@ use native.Mathlib.Omega.{arith}
 use lib.ListN.{length, getD, take, drop, length-take, length-drop}
 use lib.Seq.{getD-take}
 use lib.Dec.{eqb}
-use borrow.Author.Tests.{eq-eqb, ne-eqb, eqb-true, eqb-false, le-leb, lt-leb}
+use borrow.Author.Tests.{eq-eqb, ne-eqb, eqb-true, eqb-false, le-leb, lt-leb, not-false}
+use Rattle.wire.specs.Size.{recordBytes}
 use Rattle.wire.specs.Test.{both}
 use Rattle.wire.specs.Number.{word, wordBytes}
 use Rattle.wire.specs.Bytes.{alike}
@@ -21,7 +22,7 @@ use Rattle.wire.proofs.Walk.{hit, miss, none-left, placed, none-passes, at-firs
 use Rattle.wire.proofs.Widening.{wide-short, wide-long, one-length}
 use Rattle.attribute.specs.Record.{Entry, entryOf, uuidOf}
 use Rattle.attribute.specs.Lookup.{handleOf, recorded, isWithin, isWanted}
-use Rattle.attribute.specs.Walk.{Parts, shortOf, mayBe, isOf, anyRecord, Picks}
+use Rattle.attribute.specs.Walk.{Parts, shortOf, mayBe, mayMatch, isOf, anyRecord, Picks}
 use Rattle.attribute.specs.declared.Stretch.{Stretch}
 use Rattle.attribute.specs.declared.ShortForm.{ShortForm}
 use Rattle.attribute.proofs.Entries.{low, not-low, outside, inside}
@@ -166,7 +167,7 @@ unfolding word
 short-word n = omega (arith, ap (λ (x : ShortForm). x .value) (own-short (wordBytes n) refl))
 
 -- a type and its short form: a record with a short UUID of that type has that number
-module _ (r u : List ℕ) (lr : length r ≡ 32) (s : getD r 11 0 ≡ 2) where
+module _ (r u : List ℕ) (lr : length r ≡ recordBytes) (s : getD r 11 0 ≡ 2) where
   abbrev a : ℕ
   a = getD (uuidOf r) 0 0
 
@@ -223,7 +224,7 @@ module _ (r : List ℕ) (n : ℕ) where
   unfolding mayBe
   may-short e = rw e
 
-  pub may-not : (u : List ℕ) → length r ≡ 32 → n ≡ shortOf u .value → mayBe n r ≡ false → isOf u r ≡ false
+  pub may-not : (u : List ℕ) → length r ≡ recordBytes → n ≡ shortOf u .value → mayBe n r ≡ false → isOf u r ≡ false
   may-not u lr v e = by (eqb (getD r 11 0) 2) refl
     where
       by : (t : Bool) → eqb (getD r 11 0) 2 ≡ t → isOf u r ≡ false
@@ -231,6 +232,25 @@ module _ (r : List ℕ) (n : ℕ) where
       by false h =
           let q : _≡_ {A = ℕ} 0 1 = cc (may-long h ∙ e) in
           absurd (omega arith)
+
+-- the test by a short form: by its number, or by a long UUID where there is none; and what it rules out
+module _ (r : List ℕ) (s : ShortForm) where
+  pub match-number : s .has ≡ true → mayBe (s .value) r ≡ mayMatch s r
+  unfolding mayMatch
+  match-number h = rw h
+
+  pub match-long : s .has ≡ false → not (eqb (getD r 11 0) 2) ≡ mayMatch s r
+  unfolding mayMatch
+  match-long h = rw h
+
+  pub match-not : (u : List ℕ) → length r ≡ recordBytes → s ≡ shortOf u → mayMatch s r ≡ false → isOf u r ≡ false
+  match-not u lr e f = by (s .has) refl
+    where
+      by : (t : Bool) → s .has ≡ t → isOf u r ≡ false
+      by true h = may-not r (s .value) u lr (ap (λ (x : ShortForm). x .value) e) (match-number h ∙ f)
+      by false h =
+          long-not r u lr (eqb-true (getD r 11 0) 2 (not-false _ (match-long h ∙ f)))
+          (sym (ap (λ (x : ShortForm). x .has) e) ∙ h)
 
 -- a UUID's short form, in the ways of its code
 module _ (u : List ℕ) where

@@ -10,6 +10,8 @@ use Rattle.attribute.specs.Lookup.{placeOf}
 use Rattle.attribute.specs.declared.Attribute.{Attribute}
 use Rattle.attribute.specs.declared.Link.{Link}
 use Rattle.attribute.specs.declared.Link.the-variants.{Plain, Encrypted, Authenticated, Gone}
+use Rattle.attribute.specs.declared.Wish.{Wish}
+use Rattle.attribute.specs.declared.Wish.the-variants.{Read, Write}
 use Rattle.attribute.specs.declared.Access.{Access}
 use Rattle.attribute.specs.declared.Access.the-variants.{Granted, Denied}
 use Rattle.wire.specs.declared.Found.{Found}
@@ -41,13 +43,15 @@ mayRead a link = accessOf link 0x02 (a .reads)
 abbrev pub mayWrite : Attribute → Link → Access
 mayWrite a link = accessOf link 0x03 (a .writes)
 
+-- what a link wishes to do
+abbrev pub mayDo : Wish → Attribute → Link → Access
+mayDo Read a link = mayRead a link
+mayDo Write a link = mayWrite a link
+
 -- by handle: an absent one is 0x01
-abbrev pub accessAt : (Attribute → Link → Access) → List (List ℕ) → Link → Found → Access
-accessAt may list link Nothing = Denied 0x01
-accessAt may list link (At i) = may (attributeOf (getD list i [])) link
+abbrev pub accessAt : Wish → List (List ℕ) → Link → Found → Access
+accessAt wish list link Nothing = Denied 0x01
+accessAt wish list link (At i) = mayDo wish (attributeOf (getD list i [])) link
 
-abbrev pub canRead : List (List ℕ) → Link → ℕ → Access
-canRead list link h = accessAt mayRead list link (placeOf list h)
-
-abbrev pub canWrite : List (List ℕ) → Link → ℕ → Access
-canWrite list link h = accessAt mayWrite list link (placeOf list h)
+abbrev pub canDo : Wish → List (List ℕ) → Link → ℕ → Access
+canDo wish list link h = accessAt wish list link (placeOf list h)

@@ -1,7 +1,7 @@
 -- The walks of list answers: the places of a range, and the entries of a type. Assumes nothing.
 use Prim.Native.Nat.{ℕ, _≤_, _<_}
 use mathlib.Core.Path.{_≡_}
-use mathlib.Core.Bool.{Bool, true, false, cond}
+use mathlib.Core.Bool.{Bool, true, false, cond, not}
 use mathlib.Core.List.{List, []}
 use lib.ListN.{length, getD, take, drop}
 use lib.Dec.{eqb}
@@ -28,6 +28,10 @@ shortOf u =
 -- a record that has a long UUID, or the short one of this number
 unfoldable pub mayBe : ℕ → List ℕ → Bool
 mayBe n r = cond (eqb (getD r 11 0) 2) (eqb (word r 12) n) true
+
+-- a record that may be of a type, by the type's short form: where there is none, only one that has a long UUID
+unfoldable pub mayMatch : ShortForm → List ℕ → Bool
+mayMatch s r = cond (s .has) (mayBe (s .value) r) (not (eqb (getD r 11 0) 2))
 
 -- a record of a type, after widening
 abbrev pub isOf : List ℕ → List ℕ → Bool

@@ -4,15 +4,17 @@ ghost use mathlib.Core.List.{[]};
 ghost use Prim.Native.Nat.{_≤_, _<_};
 ghost use lib.ListN.{length, getD, set};
 ghost use lib.Dec.{eqb};
+ghost use Rattle.wire.specs.Size.{recordBytes};
 ghost use Rattle.wire.specs.Uuid.{sameUuid};
 ghost use Rattle.attribute.specs.Record.{attributeOf, uuidOf, withLength, entryOf};
-ghost use Rattle.attribute.specs.Lookup.{handleOf, isWithin, isWanted, isService, InGroup};
+ghost use Rattle.attribute.specs.Lookup.{handleOf, isService, InGroup};
 use crate::Attribute;
 use crate::Group;
 use wire::least;
+use wire::sizes::Record;
 
 // The record's fields.
-pub fn decode(r: &[u8; 32]) -> Attribute
+pub fn decode(r: &Record) -> Attribute
     ensures { λ a. ⌜ a ≡ attributeOf (now (r .entry)) ⌝ }
 {
     let flags = r[10];
@@ -30,7 +32,7 @@ pub fn decode(r: &[u8; 32]) -> Attribute
 
 // The record's UUID, of as many bytes as it says and has.
 pub fn uuid(r: &[u8]) -> &[u8]
-    requires { ⌜ length (now r) ≡ 32 ⌝ }
+    requires { ⌜ length (now r) ≡ recordBytes ⌝ }
     ensures { λ u. ⌜ now u ≡ uuidOf (now (r .entry)) ⌝ }
 {
     let to = least(12 + r[11] as usize, 32);
@@ -38,7 +40,7 @@ pub fn uuid(r: &[u8]) -> &[u8]
 }
 
 // An entry's handle.
-pub fn handle_at(list: &[[u8; 32]], i: usize) -> u16
+pub fn handle_at(list: &[Record], i: usize) -> u16
     requires { ⌜ i < length (now list) ⌝ }
     ensures { λ r. ⌜ r ≡ handleOf (getD (now (list .entry)) i []) ⌝ }
 {
@@ -46,7 +48,7 @@ pub fn handle_at(list: &[[u8; 32]], i: usize) -> u16
 }
 
 // Sets the present length of the entry at place i. Every other byte of the list stays.
-pub fn set_length(list: &mut [[u8; 32]], i: usize, n: u16)
+pub fn set_length(list: &mut [Record], i: usize, n: u16)
     requires { ⌜ i < length (now list) ⌝ }
     ensures { λ _. ⌜ now (list .exit) ≡ set (now (list .entry)) i (withLength (getD (now (list .entry)) i []) n) ⌝ }
 {
@@ -55,7 +57,7 @@ pub fn set_length(list: &mut [[u8; 32]], i: usize, n: u16)
 
 // Whether two short UUIDs are the same: that of a record, and another.
 fn same_short(r: &[u8], wanted: &[u8]) -> bool
-    requires { ⌜ (length (now r) ≡ 32) × (getD (now r) 11 0 ≡ 2) × (length (now wanted) ≡ 2) ⌝ }
+    requires { ⌜ (length (now r) ≡ recordBytes) × (getD (now r) 11 0 ≡ 2) × (length (now wanted) ≡ 2) ⌝ }
     ensures { λ t. ⌜ t ≡ sameUuid (uuidOf (now (r .entry))) (now (wanted .entry)) ⌝ }
 {
     if r[12] != wanted[0] {
@@ -66,7 +68,7 @@ fn same_short(r: &[u8], wanted: &[u8]) -> bool
 
 // Whether a record's UUID is a short one.
 pub fn is_short(r: &[u8]) -> bool
-    requires { ⌜ length (now r) ≡ 32 ⌝ }
+    requires { ⌜ length (now r) ≡ recordBytes ⌝ }
     ensures { λ t. ⌜ t ≡ eqb (getD (now (r .entry)) 11 0) 2 ⌝ }
 {
     r[11] == 2
@@ -74,7 +76,7 @@ pub fn is_short(r: &[u8]) -> bool
 
 // Whether a short UUID is a service's, primary or secondary: 0x2800 or 0x2801.
 fn is_short_service(r: &[u8]) -> bool
-    requires { ⌜ (length (now r) ≡ 32) × (getD (now r) 11 0 ≡ 2) ⌝ }
+    requires { ⌜ (length (now r) ≡ recordBytes) × (getD (now r) 11 0 ≡ 2) ⌝ }
     ensures { λ t. ⌜ t ≡ isService (entryOf (now (r .entry))) ⌝ }
 {
     if 1 < r[12] {
@@ -85,7 +87,7 @@ fn is_short_service(r: &[u8]) -> bool
 
 // Whether one of any length is, after widening.
 fn is_wide_service(r: &[u8]) -> bool
-    requires { ⌜ length (now r) ≡ 32 ⌝ }
+    requires { ⌜ length (now r) ≡ recordBytes ⌝ }
     ensures { λ t. ⌜ t ≡ isService (entryOf (now (r .entry))) ⌝ }
 {
     let u = uuid(r);
@@ -96,7 +98,7 @@ fn is_wide_service(r: &[u8]) -> bool
 }
 
 // Whether an entry starts a service. Most UUIDs are short, and there two bytes decide.
-fn is_service(list: &[[u8; 32]], i: usize) -> bool
+fn is_service(list: &[Record], i: usize) -> bool
     requires { ⌜ i < length (now list) ⌝ }
     ensures { λ r. ⌜ r ≡ isService (entryOf (getD (now (list .entry)) i [])) ⌝ }
 {
@@ -107,7 +109,7 @@ fn is_service(list: &[[u8; 32]], i: usize) -> bool
 }
 
 // The group of the entry at place i, from there on: it stops at the next service or behind the list, and ends at the handle before that.
-fn group_at(list: &[[u8; 32]], i: usize) -> Group
+fn group_at(list: &[Record], i: usize) -> Group
     requires { ⌜ i < length (now list) ⌝ }
     ensures { λ r. ⌜ (i < r .stop) × (r .stop ≤ length (now (list .entry))) × InGroup (now (list .entry)) i r ⌝ }
 {
@@ -124,7 +126,7 @@ fn group_at(list: &[[u8; 32]], i: usize) -> Group
 }
 
 // The group of the entry at place i: the one before, as long as it reaches that far.
-pub fn next_group(list: &[[u8; 32]], group: Group, i: usize) -> Group
+pub fn next_group(list: &[Record], group: Group, i: usize) -> Group
     requires { ⌜ (i < length (now list)) × InGroup (now list) i group ⌝ }
     ensures { λ r. ⌜ (i < r .stop) × InGroup (now (list .entry)) i r ⌝ }
 {
@@ -134,20 +136,8 @@ pub fn next_group(list: &[[u8; 32]], group: Group, i: usize) -> Group
     group_at(list, i)
 }
 
-// Whether an entry's handle lies in a range.
-pub fn is_within(list: &[[u8; 32]], i: usize, start: u16, end: u16) -> bool
-    requires { ⌜ i < length (now list) ⌝ }
-    ensures { λ r. ⌜ r ≡ isWithin start end (entryOf (getD (now (list .entry)) i [])) ⌝ }
-{
-    let h = handle_at(list, i);
-    if h < start {
-        return false;
-    }
-    h <= end
-}
-
 // Whether an entry is of a type.
-pub fn is_type(list: &[[u8; 32]], i: usize, wanted: &[u8]) -> bool
+pub fn is_type(list: &[Record], i: usize, wanted: &[u8]) -> bool
     requires { ⌜ i < length (now list) ⌝ }
     ensures { λ r. ⌜ r ≡ sameUuid (uuidOf (getD (now (list .entry)) i [])) (now (wanted .entry)) ⌝ }
 {
@@ -157,15 +147,4 @@ pub fn is_type(list: &[[u8; 32]], i: usize, wanted: &[u8]) -> bool
         }
     }
     wire::uuid::same_uuid(uuid(&list[i]), wanted)
-}
-
-// Whether an entry lies in a range and is of a type.
-pub fn is_wanted(list: &[[u8; 32]], i: usize, start: u16, end: u16, wanted: &[u8]) -> bool
-    requires { ⌜ i < length (now list) ⌝ }
-    ensures { λ r. ⌜ r ≡ isWanted start end (now (wanted .entry)) (entryOf (getD (now (list .entry)) i [])) ⌝ }
-{
-    if !is_within(list, i, start, end) {
-        return false;
-    }
-    is_type(list, i, wanted)
 }

@@ -48,6 +48,12 @@ pub enum Link {
     Gone,
 }
 
+// What a link wants to do with a value.
+pub enum Wish {
+    Read,
+    Write,
+}
+
 // Whether a link meets a need, or the ATT code that says why not.
 pub enum Access {
     Granted,

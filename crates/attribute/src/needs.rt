@@ -1,12 +1,14 @@
 // What a link may do with a value.
 ghost use mathlib.Core.Path.{_≡_};
-ghost use Rattle.attribute.specs.Needs.{accessOf, levelOf, mayRead, mayWrite, canRead, canWrite};
+ghost use Rattle.attribute.specs.Needs.{accessOf, levelOf, mayRead, mayWrite, mayDo, canDo};
 use crate::Access;
 use crate::Attribute;
 use crate::Link;
+use crate::Wish;
 use crate::inner;
 use crate::lookup;
 use wire::Found;
+use wire::sizes::Record;
 
 // The highest need that a link meets.
 fn level(link: Link) -> u8
@@ -53,21 +55,22 @@ pub fn may_write(a: Attribute, link: Link) -> Access
     access(link, 0x03, a.writes)
 }
 
-// The same by handle: 0x01 for one that is not listed.
-pub fn can_read(list: &[[u8; 32]], link: Link, handle: u16) -> Access
-    ensures { λ r. ⌜ r ≡ canRead (now (list .entry)) link handle ⌝ }
+// Whether it may do with it what it wishes.
+fn may(a: Attribute, link: Link, wish: Wish) -> Access
+    ensures { λ r. ⌜ r ≡ mayDo wish a link ⌝ }
 {
-    let Found::At(i) = lookup::find_handle(list, handle) else {
-        return Access::Denied(0x01);
-    };
-    may_read(inner::decode(&list[i]), link)
+    match wish {
+        Wish::Read => may_read(a, link),
+        Wish::Write => may_write(a, link),
+    }
 }
 
-pub fn can_write(list: &[[u8; 32]], link: Link, handle: u16) -> Access
-    ensures { λ r. ⌜ r ≡ canWrite (now (list .entry)) link handle ⌝ }
+// The same by handle: 0x01 for one that is not listed.
+pub fn can(list: &[Record], link: Link, handle: u16, wish: Wish) -> Access
+    ensures { λ r. ⌜ r ≡ canDo wish (now (list .entry)) link handle ⌝ }
 {
     let Found::At(i) = lookup::find_handle(list, handle) else {
         return Access::Denied(0x01);
     };
-    may_write(inner::decode(&list[i]), link)
+    may(inner::decode(&list[i]), link, wish)
 }

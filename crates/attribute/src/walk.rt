@@ -2,20 +2,21 @@
 // type among them. A range is turned into places once, so that no entry's handle is tested; and a type into its short form, so that most
 // entries are passed over by one number.
 ghost use mathlib.Core.Path.{_≡_};
-ghost use mathlib.Core.Bool.{false};
 ghost use mathlib.Core.List.{[]};
 ghost use Prim.Native.Nat.{_+_, _≤_, _<_};
 ghost use lib.ListN.{length, getD, take};
+ghost use Rattle.wire.specs.Size.{recordBytes};
 ghost use Rattle.wire.specs.Walk.{placeFrom};
 ghost use Rattle.attribute.specs.Lookup.{placeOf, Ascends};
-ghost use Rattle.attribute.specs.Walk.{Parts, shortOf, mayBe, isOf};
+ghost use Rattle.attribute.specs.Walk.{Parts, shortOf, mayBe, mayMatch, isOf};
 use crate::ShortForm;
 use crate::Stretch;
 use crate::inner;
 use wire::Found;
+use wire::sizes::Record;
 
 // The first place whose handle is not below one, by halves.
-fn place_from(list: &[[u8; 32]], handle: u16) -> usize
+fn place_from(list: &[Record], handle: u16) -> usize
     requires { ⌜ Ascends (now list) ⌝ }
     ensures { λ r. ⌜ Parts (now (list .entry)) handle r ⌝ }
 {
@@ -33,7 +34,7 @@ fn place_from(list: &[[u8; 32]], handle: u16) -> usize
 }
 
 // The place of a handle.
-pub fn find_listed(list: &[[u8; 32]], handle: u16) -> Found
+pub fn find_listed(list: &[Record], handle: u16) -> Found
     requires { ⌜ Ascends (now list) ⌝ }
     ensures { λ r. ⌜ r ≡ placeOf (now (list .entry)) handle ⌝ }
 {
@@ -47,7 +48,7 @@ pub fn find_listed(list: &[[u8; 32]], handle: u16) -> Found
 }
 
 // The first place of a range, which mostly starts with the list.
-fn first_from(list: &[[u8; 32]], start: u16) -> usize
+fn first_from(list: &[Record], start: u16) -> usize
     requires { ⌜ Ascends (now list) × (0 < length (now list)) ⌝ }
     ensures { λ r. ⌜ Parts (now (list .entry)) start r ⌝ }
 {
@@ -58,7 +59,7 @@ fn first_from(list: &[[u8; 32]], start: u16) -> usize
 }
 
 // The first place behind a range, which mostly ends with the list.
-fn first_behind(list: &[[u8; 32]], end: u16) -> usize
+fn first_behind(list: &[Record], end: u16) -> usize
     requires { ⌜ Ascends (now list) × (0 < length (now list)) ⌝ }
     ensures { λ r. ⌜ Parts (now (list .entry)) (end + 1) r ⌝ }
 {
@@ -69,7 +70,7 @@ fn first_behind(list: &[[u8; 32]], end: u16) -> usize
 }
 
 // The places whose handles lie in a range.
-pub fn stretch(list: &[[u8; 32]], start: u16, end: u16) -> Stretch
+pub fn stretch(list: &[Record], start: u16, end: u16) -> Stretch
     requires { ⌜ Ascends (now list) ⌝ }
     ensures { λ r. ⌜ Parts (now (list .entry)) start (r .from) × Parts (now (list .entry)) (end + 1) (r .to) ⌝ }
 {
@@ -109,9 +110,9 @@ pub fn short_of(u: &[u8]) -> ShortForm
 }
 
 // Whether an entry may be of a type that has this short form: a long UUID is not looked at.
-pub fn may_be(list: &[[u8; 32]], i: usize, value: u16) -> bool
+pub fn may_be(list: &[Record], i: usize, value: u16) -> bool
     requires { ⌜ i < length (now list) ⌝ }
-    ensures { λ r. ⌜ (r ≡ mayBe value (getD (now (list .entry)) i [])) × (length (getD (now (list .entry)) i []) ≡ 32) ⌝ }
+    ensures { λ r. ⌜ (r ≡ mayBe value (getD (now (list .entry)) i [])) × (length (getD (now (list .entry)) i []) ≡ recordBytes) ⌝ }
 {
     if !inner::is_short(&list[i]) {
         return true;
@@ -119,47 +120,30 @@ pub fn may_be(list: &[[u8; 32]], i: usize, value: u16) -> bool
     wire::inner::get(&list[i], 12) == value
 }
 
-// The first place of a stretch whose entry is of a type that has this short form.
-fn find_short(list: &[[u8; 32]], p: Stretch, value: u16, uuid: &[u8]) -> Found
-    requires { ⌜ (p .to ≤ length (now list)) × (value ≡ shortOf (now uuid) .value) ⌝ }
-    ensures { λ r. ⌜ r ≡ placeFrom (isOf (now (uuid .entry))) (take (p .to) (now (list .entry))) (p .from) ⌝ }
+// Whether an entry may be of a type, by the type's short form: where there is none, only a long UUID may be.
+fn may_match(list: &[Record], i: usize, short: ShortForm) -> bool
+    requires { ⌜ i < length (now list) ⌝ }
+    ensures { λ r. ⌜ (r ≡ mayMatch short (getD (now (list .entry)) i [])) × (length (getD (now (list .entry)) i []) ≡ recordBytes) ⌝ }
 {
-    let mut i = p.from;
-    while i < p.to {
-        if may_be(list, i, value) {
-            if inner::is_type(list, i, uuid) {
-                return Found::At(i);
-            }
-        }
-        i += 1;
+    if short.has {
+        return may_be(list, i, short.value);
     }
-    Found::Nothing
+    !inner::is_short(&list[i])
 }
 
-// The same for a type that has none: only long UUIDs are compared.
-fn find_long(list: &[[u8; 32]], p: Stretch, uuid: &[u8]) -> Found
-    requires { ⌜ (p .to ≤ length (now list)) × (shortOf (now uuid) .has ≡ false) ⌝ }
-    ensures { λ r. ⌜ r ≡ placeFrom (isOf (now (uuid .entry))) (take (p .to) (now (list .entry))) (p .from) ⌝ }
-{
-    let mut i = p.from;
-    while i < p.to {
-        if !inner::is_short(&list[i]) {
-            if inner::is_type(list, i, uuid) {
-                return Found::At(i);
-            }
-        }
-        i += 1;
-    }
-    Found::Nothing
-}
-
-// The same for any type, with its short form.
-pub fn find_type(list: &[[u8; 32]], p: Stretch, short: ShortForm, uuid: &[u8]) -> Found
+// The first place of a stretch whose entry is of a type, with the type's short form, which passes most entries over by one comparison.
+pub fn find_type(list: &[Record], p: Stretch, short: ShortForm, uuid: &[u8]) -> Found
     requires { ⌜ (p .to ≤ length (now list)) × (short ≡ shortOf (now uuid)) ⌝ }
     ensures { λ r. ⌜ r ≡ placeFrom (isOf (now (uuid .entry))) (take (p .to) (now (list .entry))) (p .from) ⌝ }
 {
-    if short.has {
-        return find_short(list, p, short.value, uuid);
+    let mut i = p.from;
+    while i < p.to {
+        if may_match(list, i, short) {
+            if inner::is_type(list, i, uuid) {
+                return Found::At(i);
+            }
+        }
+        i += 1;
     }
-    find_long(list, p, uuid)
+    Found::Nothing
 }

@@ -1,5 +1,5 @@
 -- The refusals in order: each way to them, what a refused call tells and leaves, and what a call that is let in may lean on. Assumes nothing.
-use mathlib.Core.Path.{_≡_, refl, sym, _∙_}
+use mathlib.Core.Path.{_≡_, refl, sym}
 use mathlib.Core.Bool.{Bool, true, false, cond}
 use mathlib.Core.List.{List, []}
 use Prim.Native.Nat.{ℕ, _-_, _≤_, _<_}
@@ -11,15 +11,12 @@ use Rattle.wire.proofs.Tests.{both-l, both-r}
 use Rattle.table_view.specs.Told.{Told}
 use Rattle.peers.specs.Slots.{slotOf}
 use Rattle.peers.specs.declared.Identity.{Identity}
-use Rattle.peers.specs.declared.Slot.{Slot}
 use Rattle.peers.proofs.Laws.{slot-inside}
+use Rattle.state.specs.State.{State}
 use Rattle.state.specs.Valid.{valid, validWith, recordOk}
 use Rattle.state.specs.declared.Prepared.{Prepared}
-use Rattle.state.specs.Fresh.{freshTable}
-use Rattle.state.proofs.Keeping.{tables-read, eight-tables, right-list, right-slots}
-use Rattle.state.proofs.Each.{slots-count}
+use Rattle.state.proofs.Keeping.{tables-read, eight-slots, right-list}
 use Rattle.model.specs.Told.{toldAnswer, Answered}
-use Rattle.model.specs.Change.{Lent, Left}
 use Rattle.model.proofs.Sending.{answered-as}
 use Rattle.model.specs.declared.Answer.{Answer}
 use Rattle.model.specs.declared.Answer.the-variants.{BadState, BadBuffer, BadPeer}
@@ -103,47 +100,33 @@ no-answer v b p a out t e = answered-as out out a _ _ (refusal v b p a e out t) 
 pub yes-answer : (d : Admission) (old new : List ℕ) (r : Answer) (t : Told) → d ≡ Yes → Answered old new r t → Answered old new r (toldIf d t)
 yes-answer d old new r t e w = answered-as old new r t _ w (told-yes d t e)
 
--- the lent bytes
-left-as : (s t : Lent) (list : List (List ℕ)) (store : List ℕ) (ts : List (List ℕ)) → Left s list store ts → s ≡ t → Left t list store ts
-left-as s t list store ts l e = rw e at l
-
-module _ (d : Admission) (s new : Lent) where
-  pub lent-stays : (a : Answer) → d ≡ No a → Left (leftIf d s new) (s .list) (s .store) (s .tables)
-  lent-stays a e = left-as s _ _ _ _ (record { list-is = refl; store-is = refl; tables-are = refl }) (left-no d a s new e)
-
-  pub lent-left : (list : List (List ℕ)) (store : List ℕ) (ts : List (List ℕ)) → d ≡ Yes → Left new list store ts → Left (leftIf d s new) list store ts
-  lent-left list store ts e l = left-as new _ list store ts l (left-yes d s new e)
-
 -- a valid state is ready for a peer's call
-module _ (list : List (List ℕ)) (store : ℕ) (row : List Slot) (ts : List (List ℕ)) (who : Identity) (h : valid list store row ts ≡ true) where
-  eight : length row ≡ 8
-  eight = slots-count (freshTable list) row ts (right-slots list store row ts h) ∙ eight-tables list store row ts h
+module _ (s : State) (who : Identity) (h : valid s ≡ true) where
+  pub slot-ready : SlotReady (s .tables) (slotOf (s .row) who)
+  slot-ready = record { tables = tables-read s h; inside = λ k e. omega (arith, slot-inside (s .row) who k e, eight-slots s h) }
 
-  pub slot-ready : SlotReady ts (slotOf row who)
-  slot-ready = record { tables = tables-read list store row ts h; inside = λ k e. omega (arith, slot-inside row who k e, eight) }
-
-  pub ready : Ready list store ts (slotOf row who)
-  ready = record { right = right-list list store row ts h; own = slot-ready }
+  pub ready : Ready (s .list) (length (s .store)) (s .tables) (slotOf (s .row) who)
+  ready = record { right = right-list s h; own = slot-ready }
 
   -- also for one that is given no slot, where it needs none
-  pub ready-given : (rq : Request) → Ready list store ts (givenSlot rq (slotOf row who))
+  pub ready-given : (rq : Request) → Ready (s .list) (length (s .store)) (s .tables) (givenSlot rq (slotOf (s .row) who))
   unfolding givenSlot
   ready-given rq = by (needsSlot rq)
     where
-      by : (t : Bool) → Ready list store ts (cond t (slotOf row who) Nothing)
+      by : (t : Bool) → Ready (s .list) (length (s .store)) (s .tables) (cond t (slotOf (s .row) who) Nothing)
       by true = ready
       by false =
           record {
-            right = right-list list store row ts h;
-            own = record { tables = tables-read list store row ts h; inside = λ k e. let z : _≡_ {A = ℕ} 0 1 = cc in absurd (omega arith) };
+            right = right-list s h;
+            own = record { tables = tables-read s h; inside = λ k e. let z : _≡_ {A = ℕ} 0 1 = cc in absurd (omega arith) };
           }
 
-module _ (list : List (List ℕ)) (store : ℕ) (row : List Slot) (ts : List (List ℕ)) (p : Prepared) (h : validWith list store row ts p ≡ true) where
+module _ (s : State) (p : Prepared) (h : validWith s p ≡ true) where
   pub with-record : recordOk p ≡ true
   unfolding validWith
   with-record = both-l _ _ h
 
-  pub without-record : valid list store row ts ≡ true
+  pub without-record : valid s ≡ true
   unfolding validWith
   without-record = both-r _ _ h
 

@@ -1,4 +1,5 @@
 pub mod Admitting
+pub mod Moving
 pub mod Processing
 pub mod Unique
 pub mod Valid

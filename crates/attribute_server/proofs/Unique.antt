@@ -1,16 +1,16 @@
--- Any two results that satisfy a call's promise are equal: its answer, the row or the record that it hands back, and every lent byte. Assumes nothing.
-use mathlib.Core.Path.{_≡_, sym, _∙_}
+-- Any two results that satisfy a call's promise are equal: its answer, what it hands back, and every lent byte. Assumes nothing.
+use mathlib.Core.Path.{_≡_, sym, ap, _∙_}
 use mathlib.Core.List.{List, []}
-use Prim.Native.Nat.{ℕ}
+use Prim.Native.Nat.{ℕ, _<_}
+use lib.ListN.{length, getD}
+use Rattle.wire.specs.Size.{slotBytes}
 use Rattle.table_view.specs.Told.{Told}
-use Rattle.peers.specs.declared.Slot.{Slot}
+use Rattle.peers.proofs.Rows.{one-row}
+use Rattle.state.specs.State.{State, Waiting, lent}
 use Rattle.model.specs.Told.{toldAnswer, Answered}
-use Rattle.model.specs.Change.{Lent, Left}
 use Rattle.model.specs.declared.Answer.{Answer}
 use Rattle.model.proofs.Telling.{Same, one-answer, one-answered}
-use Rattle.writing.specs.declared.Changed.{Changed}
-use Rattle.attribute_server.specs.Request.{Call, Processed}
-use Rattle.attribute_server.specs.declared.connection.Joining.{Joining}
+use Rattle.attribute_server.specs.Request.{Query, Processed}
 
 -- `can_read`, `can_write`, `should_notify`, `should_indicate`: the answer
 pub one-told : (t : Told) (a b : Answer) → toldAnswer [] a ≡ t → toldAnswer [] b ≡ t → a ≡ b
@@ -20,50 +20,39 @@ one-told t a b p q = one-answer [] a b (p ∙ sym q)
 pub one-copied : (old new new′ : List ℕ) (r r′ : Answer) (t : Told) → Answered old new r t → Answered old new′ r′ t → Same new new′ r r′
 one-copied = one-answered
 
--- the lent bytes
-pub record SameLent (list list′ : List (List ℕ)) (store store′ : List ℕ) (ts ts′ : List (List ℕ)) : Type 0 where
+-- `set`, `set_client_att_table`: the answer and the state
+pub one-left : (t : Told) (s : State) (r r′ : Answer) (s₁ s₂ : State) → toldAnswer [] r ≡ t → s₁ ≡ s → toldAnswer [] r′ ≡ t → s₂ ≡ s → (r ≡ r′) × (s₁ ≡ s₂)
+one-left t s r r′ s₁ s₂ p a q b = (one-told t r r′ p q, a ∙ sym b)
+
+-- the state fixes the lent bytes: list, store and tables are in it, and a row of slots of eight bytes is fixed by the slots that they are
+pub record SameLent (list list′ : List (List ℕ)) (store store′ : List ℕ) (row row′ : List (List ℕ)) (ts ts′ : List (List ℕ)) : Type 0 where
   pub list-is : list ≡ list′
   pub store-is : store ≡ store′
+  pub row-is : row ≡ row′
   pub tables-are : ts ≡ ts′
 
-one-left : (s : Lent) (list list′ : List (List ℕ)) (store store′ : List ℕ) (ts ts′ : List (List ℕ)) → Left s list store ts → Left s list′ store′ ts′ → SameLent list list′ store store′ ts ts′
-one-left s list list′ store store′ ts ts′ a b =
-    record { list-is = a .list-is ∙ sym (b .list-is); store-is = a .store-is ∙ sym (b .store-is); tables-are = a .tables-are ∙ sym (b .tables-are) }
+abbrev pub EightEach : List (List ℕ) → Type 0
+EightEach row = (i : ℕ) → i < length row → length (getD row i []) ≡ slotBytes
 
--- `set`: the answer and the lent bytes
-pub one-set : (t : Told) (s : Lent) (r r′ : Answer) (list list′ : List (List ℕ)) (store store′ : List ℕ) (ts ts′ : List (List ℕ)) → toldAnswer [] r ≡ t → Left s list store ts → toldAnswer [] r′ ≡ t → Left s list′ store′ ts′
-    → (r ≡ r′) × SameLent list list′ store store′ ts ts′
-one-set t s r r′ list list′ store store′ ts ts′ p a q b = (one-told t r r′ p q, one-left s list list′ store store′ ts ts′ a b)
+pub one-lent : (list list′ : List (List ℕ)) (store store′ : List ℕ) (row row′ : List (List ℕ)) (ts ts′ : List (List ℕ)) → EightEach row → EightEach row′
+    → lent list store row ts ≡ lent list′ store′ row′ ts′ → SameLent list list′ store store′ row row′ ts ts′
+one-lent list list′ store store′ row row′ ts ts′ m n e =
+    record {
+      list-is = ap (λ (s : State). s .list) e;
+      store-is = ap (λ (s : State). s .store) e;
+      row-is = one-row row row′ m n (ap (λ (s : State). s .row) e);
+      tables-are = ap (λ (s : State). s .tables) e;
+    }
 
--- `set_client_att_table`: the answer and the tables
-pub one-restored : (t : Told) (new : List (List ℕ)) (r r′ : Answer) (ts ts′ : List (List ℕ)) → toldAnswer [] r ≡ t → ts ≡ new → toldAnswer [] r′ ≡ t → ts′ ≡ new → (r ≡ r′) × (ts ≡ ts′)
-one-restored t new r r′ ts ts′ p a q b = (one-told t r r′ p q, a ∙ sym b)
-
--- `connect`, `disconnect`: the answer, the row and the tables
-same-joining : (r r′ : Joining) → r .row ≡ r′ .row → r .answer ≡ r′ .answer → r ≡ r′
-same-joining r r′ a b = λ i. record { row = a i; answer = b i }
-
-pub one-joined : (t : Told) (row : List Slot) (new : List (List ℕ)) (r r′ : Joining) (ts ts′ : List (List ℕ)) → toldAnswer [] (r .answer) ≡ t → r .row ≡ row → ts ≡ new → toldAnswer [] (r′ .answer) ≡ t → r′ .row ≡ row → ts′ ≡ new
-    → (r ≡ r′) × (ts ≡ ts′)
-one-joined t row new r r′ ts ts′ p a c q b d = (same-joining r r′ (a ∙ sym b) (one-told t (r .answer) (r′ .answer) p q), c ∙ sym d)
-
--- `process`: the answer and the buffer, the prepared write, and the lent bytes
-same-changed : (r r′ : Changed) → r .prepared ≡ r′ .prepared → r .answer ≡ r′ .answer → r ≡ r′
-same-changed r r′ a b = λ i. record { prepared = a i; answer = b i }
-
-pub record SameRequest (r r′ : Changed) (list list′ : List (List ℕ)) (store store′ : List ℕ) (ts ts′ : List (List ℕ)) (bytes bytes′ new new′ : List ℕ) : Type 0 where
-  pub result : r ≡ r′
-  pub lent-is : SameLent list list′ store store′ ts ts′
-  pub bytes-are : bytes ≡ bytes′
+-- `process`: the answer and the buffer, the state, and what waits at the link
+pub record SameRequest (a a′ : Answer) (s s′ : State) (w w′ : Waiting) (new new′ : List ℕ) : Type 0 where
+  pub answer : a ≡ a′
+  pub state-is : s ≡ s′
+  pub waits : w ≡ w′
   pub out : new ≡ new′
 
-pub one-processed : (k : Call) (out : List ℕ) (r r′ : Changed) (list list′ : List (List ℕ)) (store store′ : List ℕ) (ts ts′ : List (List ℕ)) (bytes bytes′ new new′ : List ℕ)
-    → Processed k out r list store ts bytes new → Processed k out r′ list′ store′ ts′ bytes′ new′ → SameRequest r r′ list list′ store store′ ts ts′ bytes bytes′ new new′
-one-processed k out r r′ list list′ store store′ ts ts′ bytes bytes′ new new′ a b =
-    let w = one-answered out new new′ (r .answer) (r′ .answer) _ (a .answer) (b .answer) in
-    record {
-      result = same-changed r r′ (a .record-is ∙ sym (b .record-is)) (w .answer);
-      lent-is = one-left _ list list′ store store′ ts ts′ (a .left) (b .left);
-      bytes-are = a .bytes-are ∙ sym (b .bytes-are);
-      out = w .out;
-    }
+pub one-processed : (s : State) (w : Waiting) (q : Query) (out : List ℕ) (a a′ : Answer) (s₁ s₂ : State) (w₁ w₂ : Waiting) (new new′ : List ℕ)
+    → Processed s w q out a s₁ w₁ new → Processed s w q out a′ s₂ w₂ new′ → SameRequest a a′ s₁ s₂ w₁ w₂ new new′
+one-processed s w q out a a′ s₁ s₂ w₁ w₂ new new′ x y =
+    let b = one-answered out new new′ a a′ _ (x .answer) (y .answer) in
+    record { answer = b .answer; state-is = x .left ∙ sym (y .left); waits = x .waits ∙ sym (y .waits); out = b .out }

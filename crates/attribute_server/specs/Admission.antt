@@ -1,12 +1,12 @@
 -- The refusals that come before anything else, the lowest number first (document 01, "Refusals of a call"). Assumes nothing.
 use Prim.Native.Nat.{ℕ, _-_}
 use mathlib.Core.Bool.{Bool, true, false, cond}
-use mathlib.Core.List.{List, []}
+use mathlib.Core.List.{[]}
 use lib.Dec.{ltb}
 use Rattle.table_view.specs.Told.{Told}
 use Rattle.peers.specs.Identity.{isBad}
 use Rattle.peers.specs.declared.Identity.{Identity}
-use Rattle.peers.specs.declared.Slot.{Slot}
+use Rattle.state.specs.State.{State}
 use Rattle.state.specs.Valid.{valid}
 use Rattle.model.specs.Told.{toldAnswer}
 use Rattle.model.specs.declared.Answer.the-variants.{BadState, BadBuffer, BadPeer}
@@ -23,8 +23,8 @@ admissionBy right badBuffer badPeer =
     cond right (cond badBuffer (No BadBuffer) (cond badPeer (No BadPeer) Yes)) (No BadState)
 
 -- a call of the application meets a state and names a peer
-abbrev pub admission : List (List ℕ) → ℕ → List Slot → List (List ℕ) → Identity → Admission
-admission list store row ts who = admissionBy (valid list store row ts) false (isBad who)
+abbrev pub admission : State → Identity → Admission
+admission s who = admissionBy (valid s) false (isBad who)
 
 -- what a call tells, and what it leaves: a refusal, and everything as it was; or what it does
 abbrev pub toldIf : Admission → Told → Told

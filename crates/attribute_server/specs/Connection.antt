@@ -1,28 +1,34 @@
--- `connect` and `disconnect`: what they tell, and the row and the tables after them (document 01, "Slots"). Assumes nothing.
+-- `connect` and `disconnect`: what they tell, and the state after them (document 01, "Slots"). Assumes nothing.
 use Prim.Native.Nat.{ℕ}
-use mathlib.Core.Bool.{Bool, cond}
-use mathlib.Core.List.{List}
+use mathlib.Core.Bool.{Bool, false, cond}
 use Rattle.table_view.specs.Told.{Told, done, refused}
-use Rattle.peers.specs.Slots.{choiceOf, rowAfter, tablesAfter, isFull, rowLeft, tablesLeft}
+use Rattle.peers.specs.Slots.{connecting, leaving}
 use Rattle.peers.specs.declared.Identity.{Identity}
-use Rattle.peers.specs.declared.Slot.{Slot}
+use Rattle.peers.specs.declared.Move.{Move}
+use Rattle.state.specs.State.{State, moved}
 use Rattle.attribute_server.specs.Admission.{admission, toldIf, leftIf}
 
-module _ (list : List (List ℕ)) (store : ℕ) (row : List Slot) (ts : List (List ℕ)) (who : Identity) where
+-- a move that puts no slot anywhere in a row of n
+abbrev pub noMove : ℕ → Move → Move
+noMove n m = record { place = n; slot = m .slot; clears = false; full = m .full }
+
+-- a move of a peer that is let in: refusal 7 where there is no slot to have
+module _ (s : State) (who : Identity) (m : Move) where
+  abbrev pub moveTold : Told
+  moveTold = toldIf (admission s who) (cond (m .full) (refused 7) done)
+
+  abbrev pub moveLeft : State
+  moveLeft = leftIf (admission s who) s (moved s m)
+
+module _ (s : State) (who : Identity) where
   abbrev pub connectTold : Told
-  connectTold = toldIf (admission list store row ts who) (cond (isFull row who) (refused 7) done)
+  connectTold = moveTold s who (connecting (s .row) who)
 
-  abbrev pub connectRow : List Slot
-  connectRow = leftIf (admission list store row ts who) row (rowAfter row who)
+  abbrev pub connectLeft : State
+  connectLeft = moveLeft s who (connecting (s .row) who)
 
-  abbrev pub connectTables : List (List ℕ)
-  connectTables = leftIf (admission list store row ts who) ts (tablesAfter ts (choiceOf row who))
+  abbrev pub disconnectTold : Bool → Told
+  disconnectTold bonded = moveTold s who (leaving (s .row) who bonded)
 
-  abbrev pub disconnectTold : Told
-  disconnectTold = toldIf (admission list store row ts who) done
-
-  abbrev pub disconnectRow : Bool → List Slot
-  disconnectRow bonded = leftIf (admission list store row ts who) row (rowLeft row who bonded)
-
-  abbrev pub disconnectTables : Bool → List (List ℕ)
-  disconnectTables bonded = leftIf (admission list store row ts who) ts (tablesLeft ts row who bonded)
+  abbrev pub disconnectLeft : Bool → State
+  disconnectLeft bonded = moveLeft s who (leaving (s .row) who bonded)

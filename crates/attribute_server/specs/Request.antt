@@ -8,62 +8,53 @@ use Rattle.attribute.specs.declared.Link.{Link}
 use Rattle.peers.specs.Identity.{isBad}
 use Rattle.peers.specs.Slots.{slotOf}
 use Rattle.peers.specs.declared.Identity.{Identity}
-use Rattle.peers.specs.declared.Slot.{Slot}
+use Rattle.state.specs.State.{State, Waiting, waiting}
 use Rattle.state.specs.Valid.{validWith}
-use Rattle.state.specs.declared.Prepared.{Prepared}
 use Rattle.model.specs.View.{View, pendingOf, viewOf, ownTable}
 use Rattle.model.specs.Answer.{requestTold}
 use Rattle.model.specs.Told.{Answered}
-use Rattle.model.specs.Change.{Lent, lent, Left, lentBy, recordBy, dataBy}
+use Rattle.model.specs.Change.{stateBy, recordBy, dataBy}
+use Rattle.model.specs.declared.Answer.{Answer}
 use Rattle.model.specs.declared.Request.{Request}
-use Rattle.writing.specs.declared.Changed.{Changed}
 use Rattle.attribute_server.specs.Admission.{admissionBy, isBadBuffer, toldIf, leftIf}
 use Rattle.attribute_server.specs.declared.Admission.{Admission}
 
--- a request, and all that it meets
-pub record Call : Type 0 where
-  pub list : List (List ℕ)
-  pub store : List ℕ
-  pub row : List Slot
-  pub tables : List (List ℕ)
+-- a request: who asks, over which link, what, and the bytes that it brings
+pub record Query : Type 0 where
   pub who : Identity
   pub link : Link
-  pub prepared : Prepared
-  pub bytes : List ℕ
   pub request : Request
   pub brings : List ℕ
 
-abbrev pub call : List (List ℕ) → List ℕ → List Slot → List (List ℕ) → Identity → Link → Prepared → List ℕ → Request → List ℕ → Call
-call list store row ts who link p bytes rq d =
-    record { list = list; store = store; row = row; tables = ts; who = who; link = link; prepared = p; bytes = bytes; request = rq; brings = d }
+abbrev pub query : Identity → Link → Request → List ℕ → Query
+query who link rq d = record { who = who; link = link; request = rq; brings = d }
 
--- what the link sees of the hub, and what it has prepared
-abbrev pub seenOf : Call → View
-seenOf k =
-    viewOf (k .link) (k .list) (k .store) (ownTable (k .row) (k .tables) (k .who)) (pendingOf (k .prepared) (k .bytes))
+-- what the link sees of the state, and what waits there
+abbrev pub seenOf : State → Waiting → Query → View
+seenOf s w q =
+    viewOf (q .link) (s .list) (s .store) (ownTable (s .row) (s .tables) (q .who)) (pendingOf (w .prepared) (w .bytes))
 
-module _ (k : Call) (room : ℕ) where
+module _ (s : State) (w : Waiting) (q : Query) (room : ℕ) where
   abbrev pub let-in : Admission
-  let-in =
-      admissionBy (validWith (k .list) (length (k .store)) (k .row) (k .tables) (k .prepared)) (isBadBuffer (k .request) (length (k .brings)) room) (isBad (k .who))
+  let-in = admissionBy (validWith s (w .prepared)) (isBadBuffer (q .request) (length (q .brings)) room) (isBad (q .who))
 
   abbrev pub processTold : Told
-  processTold = toldIf let-in (requestTold (seenOf k) (k .list) (k .store) room (k .request) (k .brings))
+  processTold = toldIf let-in (requestTold (seenOf s w q) (s .list) (s .store) room (q .request) (q .brings))
 
-  abbrev pub processLent : Lent
-  processLent =
-      leftIf let-in (lent (k .list) (k .store) (k .tables))
-      (lentBy (k .link) (lent (k .list) (k .store) (k .tables)) (slotOf (k .row) (k .who)) (seenOf k .pending) (k .request) (k .brings))
+  abbrev pub processLeft : State
+  processLeft =
+      leftIf let-in s (stateBy (q .link) s (slotOf (s .row) (q .who)) (seenOf s w q .pending) (q .request) (q .brings))
 
-  abbrev pub processRecord : Prepared
-  processRecord = leftIf let-in (k .prepared) (recordBy (k .prepared) (k .request) (length (k .brings)))
+  -- what waits at the link then
+  abbrev pub waitingBy : Waiting
+  waitingBy =
+      waiting (recordBy (w .prepared) (q .request) (length (q .brings))) (dataBy (w .prepared) (w .bytes) (q .request) (q .brings))
 
-  abbrev pub processBytes : List ℕ
-  processBytes = leftIf let-in (k .bytes) (dataBy (k .prepared) (k .bytes) (k .request) (k .brings))
+  abbrev pub processWaits : Waiting
+  processWaits = leftIf let-in w waitingBy
 
--- the promise: the answer and the buffer, the prepared write, and every lent byte
-pub record Processed (k : Call) (out : List ℕ) (r : Changed) (list : List (List ℕ)) (store : List ℕ) (ts : List (List ℕ)) (bytes new : List ℕ) : Type 0 where
-  pub answer : Answered out new (r .answer) (processTold k (length out))
-  pub record-is : r .prepared ≡ processRecord k (length out)
-  pub bytes-are : bytes ≡ processBytes k (length out)
-  pub left : Left (processLent k (length out)) list store ts
+-- the promise: the answer and the buffer, the state, and what waits at the link
+pub record Processed (s : State) (w : Waiting) (q : Query) (out : List ℕ) (a : Answer) (s′ : State) (w′ : Waiting) (new : List ℕ) : Type 0 where
+  pub answer : Answered out new a (processTold s w q (length out))
+  pub left : s′ ≡ processLeft s w q (length out)
+  pub waits : w′ ≡ processWaits s w q (length out)

@@ -1,66 +1,54 @@
 // Connecting and disconnecting.
 ghost use mathlib.Core.Path.{_≡_};
 ghost use mathlib.Core.List.{[]};
+ghost use Rattle.state.specs.State.{lent};
 ghost use Rattle.model.specs.Told.{toldAnswer};
-ghost use Rattle.attribute_server.specs.Connection.{connectTold, connectRow, connectTables, disconnectTold, disconnectRow, disconnectTables};
-use crate::Admission;
-use crate::refusal;
+ghost use Rattle.attribute_server.specs.Connection.{connectTold, connectLeft, disconnectTold, disconnectLeft};
+use crate::inner;
 use model::Answer;
 use peers::Identity;
-use peers::Slot;
-
-// The row after the call, with its answer.
-pub struct Joining {
-    pub row: [Slot; 8],
-    pub answer: Answer,
-}
-
-fn answered(row: [Slot; 8], answer: Answer) -> Joining
-    ensures { λ r. ⌜ (r .row ≡ row) × (r .answer ≡ answer) ⌝ }
-{
-    Joining { row, answer }
-}
+use peers::Want;
+use peers::inner::first;
+use wire::sizes::Record;
+use wire::sizes::SlotBytes;
+use wire::sizes::Table;
 
 // Connects a peer: it gets its slot, an empty one, or the first that is not connected, cleared.
 pub fn connect(
-    list: &[[u8; 32]],
-    store: usize,
-    row: [Slot; 8],
-    tables: &mut [[u8; 640]],
+    list: &[Record],
+    store: &[u8],
+    row: &mut [SlotBytes],
+    tables: &mut [Table],
     who: Identity,
-) -> Joining
-    ensures { λ r. ⌜ (toldAnswer [] (r .answer) ≡ connectTold (now (list .entry)) store row (now (tables .entry)) who)
-        × (r .row ≡ connectRow (now (list .entry)) store row (now (tables .entry)) who)
-        × (now (tables .exit) ≡ connectTables (now (list .entry)) store row (now (tables .entry)) who) ⌝ }
+) -> Answer
+    ensures { λ r. let s = lent (now (list .entry)) (now (store .entry)) (now (row .entry)) (now (tables .entry)) in
+        ⌜ (toldAnswer [] r ≡ connectTold s who)
+        × (lent (now (list .entry)) (now (store .entry)) (now (row .exit)) (now (tables .exit)) ≡ connectLeft s who) ⌝ }
 {
-    if let Admission::No(a) = refusal::admit(list, store, row, tables, who) {
-        return answered(row, a);
-    }
-    let out = peers::inner::connect(row, tables, who);
-    let slots = out.slots;
-    if out.full {
-        return answered(slots, Answer::NoSlot);
-    }
-    answered(slots, Answer::Done)
+    let usable = first(row, who, Want::Usable);
+    let free = first(row, who, Want::Free);
+    let m = peers::inner::join(usable, free, row.len(), who);
+    let o = inner::act(list, store, row, tables, who, m);
+    peers::inner::put(row, o.m);
+    o.answer
 }
 
 // Disconnects a peer, which keeps its slot where it is bonded.
 pub fn disconnect(
-    list: &[[u8; 32]],
-    store: usize,
-    row: [Slot; 8],
-    tables: &mut [[u8; 640]],
+    list: &[Record],
+    store: &[u8],
+    row: &mut [SlotBytes],
+    tables: &mut [Table],
     who: Identity,
     bonded: bool,
-) -> Joining
-    ensures { λ r. ⌜ (toldAnswer [] (r .answer) ≡ disconnectTold (now (list .entry)) store row (now (tables .entry)) who)
-        × (r .row ≡ disconnectRow (now (list .entry)) store row (now (tables .entry)) who bonded)
-        × (now (tables .exit) ≡ disconnectTables (now (list .entry)) store row (now (tables .entry)) who bonded) ⌝ }
+) -> Answer
+    ensures { λ r. let s = lent (now (list .entry)) (now (store .entry)) (now (row .entry)) (now (tables .entry)) in
+        ⌜ (toldAnswer [] r ≡ disconnectTold s who bonded)
+        × (lent (now (list .entry)) (now (store .entry)) (now (row .exit)) (now (tables .exit)) ≡ disconnectLeft s who bonded) ⌝ }
 {
-    if let Admission::No(a) = refusal::admit(list, store, row, tables, who) {
-        return answered(row, a);
-    }
-    let out = peers::inner::disconnect(row, tables, who, bonded);
-    let slots = out.slots;
-    answered(slots, Answer::Done)
+    let own = first(row, who, Want::Own);
+    let m = peers::inner::part(row, own, bonded);
+    let o = inner::act(list, store, row, tables, who, m);
+    peers::inner::put(row, o.m);
+    o.answer
 }

@@ -3,6 +3,7 @@ ghost use mathlib.Core.Path.{_≡_};
 ghost use mathlib.Core.Bool.{false};
 ghost use Prim.Native.Nat.{_≤_};
 ghost use Rattle.peers.specs.Identity.{isBad};
+ghost use Rattle.state.specs.State.{lent};
 ghost use Rattle.state.specs.Valid.{valid, validWith};
 ghost use Rattle.attribute_server.specs.Admission.{admissionBy, changeTooLong, isTooLong, isBadBuffer};
 use crate::Admission;
@@ -10,18 +11,21 @@ use model::Answer;
 use model::Change;
 use model::Request;
 use peers::Identity;
-use peers::Slot;
 use state::Prepared;
+use wire::sizes::Record;
+use wire::sizes::SlotBytes;
+use wire::sizes::Table;
 
 // For a call of the application.
 pub fn admit(
-    list: &[[u8; 32]],
-    store: usize,
-    row: [Slot; 8],
-    tables: &[[u8; 640]],
+    list: &[Record],
+    store: &[u8],
+    row: &[SlotBytes],
+    tables: &[Table],
     who: Identity,
 ) -> Admission
-    ensures { λ r. ⌜ r ≡ admissionBy (valid (now (list .entry)) store row (now (tables .entry))) false (isBad who) ⌝ }
+    ensures { λ r. let s = lent (now (list .entry)) (now (store .entry)) (now (row .entry)) (now (tables .entry)) in
+        ⌜ r ≡ admissionBy (valid s) false (isBad who) ⌝ }
 {
     if !state::is_valid(list, store, row, tables) {
         return Admission::No(Answer::BadState);
@@ -76,17 +80,18 @@ fn is_bad_buffer(rq: Request, n: usize, room: usize) -> bool
 
 // For a request.
 pub fn admit_request(
-    list: &[[u8; 32]],
-    store: usize,
-    row: [Slot; 8],
-    tables: &[[u8; 640]],
+    list: &[Record],
+    store: &[u8],
+    row: &[SlotBytes],
+    tables: &[Table],
     who: Identity,
     p: Prepared,
     rq: Request,
     n: usize,
     room: usize,
 ) -> Admission
-    ensures { λ r. ⌜ r ≡ admissionBy (validWith (now (list .entry)) store row (now (tables .entry)) p) (isBadBuffer rq n room) (isBad who) ⌝ }
+    ensures { λ r. let s = lent (now (list .entry)) (now (store .entry)) (now (row .entry)) (now (tables .entry)) in
+        ⌜ r ≡ admissionBy (validWith s p) (isBadBuffer rq n room) (isBad who) ⌝ }
 {
     if !state::is_valid_with(list, store, row, tables, p) {
         return Admission::No(Answer::BadState);

@@ -2,87 +2,110 @@
 ghost use mathlib.Core.Path.{_≡_};
 ghost use mathlib.Core.List.{[]};
 ghost use lib.ListN.{length};
+ghost use Rattle.attribute.specs.declared.Wish.the-variants.{Read, Write};
+ghost use Rattle.state.specs.State.{lent};
 ghost use Rattle.model.specs.Told.{toldAnswer, Answered};
-ghost use Rattle.model.specs.Change.{Left};
-ghost use Rattle.attribute_server.specs.Value.{getTold, setTold, setLent, canReadTold, canWriteTold};
+ghost use Rattle.attribute_server.specs.Value.{getTold, setTold, setLeft, canTold};
 use crate::Admission;
 use crate::refusal;
 use attribute::Link;
+use attribute::Wish;
 use model::Answer;
 use peers::Identity;
-use peers::Slot;
+use peers::Want;
+use wire::sizes::Record;
+use wire::sizes::SlotBytes;
+use wire::sizes::Table;
 
 // Copies the value under a handle out: a shared one, or the peer's own.
 pub fn get(
-    list: &[[u8; 32]],
+    list: &[Record],
     store: &[u8],
-    row: [Slot; 8],
-    tables: &[[u8; 640]],
+    row: &[SlotBytes],
+    tables: &[Table],
     who: Identity,
     handle: u16,
     out: &mut [u8],
 ) -> Answer
-    ensures { λ r. ⌜ Answered (now (out .entry)) (now (out .exit)) r (getTold (now (list .entry)) (now (store .entry)) row (now (tables .entry)) who handle (length (now (out .entry)))) ⌝ }
+    ensures { λ r. let s = lent (now (list .entry)) (now (store .entry)) (now (row .entry)) (now (tables .entry)) in
+        ⌜ Answered (now (out .entry)) (now (out .exit)) r (getTold s who handle (length (now (out .entry)))) ⌝ }
 {
-    if let Admission::No(a) = refusal::admit(list, store.len(), row, tables, who) {
+    if let Admission::No(a) = refusal::admit(list, store, row, tables, who) {
         return a;
     }
-    let slot = peers::inner::find_slot(row, who);
+    let slot = peers::inner::first(row, who, Want::Own);
     application::inner::get(list, store, tables, slot, handle, out)
 }
 
 // Sets the value under a handle: a shared one, or the peer's own.
 pub fn set(
-    list: &mut [[u8; 32]],
+    list: &mut [Record],
     store: &mut [u8],
-    row: [Slot; 8],
-    tables: &mut [[u8; 640]],
+    row: &[SlotBytes],
+    tables: &mut [Table],
     who: Identity,
     handle: u16,
     d: &[u8],
 ) -> Answer
-    ensures { λ r. ⌜ (toldAnswer [] r ≡ setTold (now (list .entry)) (now (store .entry)) row (now (tables .entry)) who handle (length (now (d .entry))))
-        × Left (setLent (now (list .entry)) (now (store .entry)) row (now (tables .entry)) who handle (now (d .entry))) (now (list .exit)) (now (store .exit)) (now (tables .exit)) ⌝ }
+    ensures { λ r. let s = lent (now (list .entry)) (now (store .entry)) (now (row .entry)) (now (tables .entry)) in
+        ⌜ (toldAnswer [] r ≡ setTold s who handle (length (now (d .entry))))
+        × (lent (now (list .exit)) (now (store .exit)) (now (row .entry)) (now (tables .exit)) ≡ setLeft s who handle (now (d .entry))) ⌝ }
 {
-    if let Admission::No(a) = refusal::admit(list, store.len(), row, tables, who) {
+    if let Admission::No(a) = refusal::admit(list, store, row, tables, who) {
         return a;
     }
-    let slot = peers::inner::find_slot(row, who);
+    let slot = peers::inner::first(row, who, Want::Own);
     application::inner::set(list, store, tables, slot, handle, d)
 }
 
-// Whether a link may read the value under a handle.
-pub fn can_read(
-    list: &[[u8; 32]],
-    store: usize,
-    row: [Slot; 8],
-    tables: &[[u8; 640]],
+// Whether a link may do what it wishes with the value under a handle.
+fn can(
+    list: &[Record],
+    store: &[u8],
+    row: &[SlotBytes],
+    tables: &[Table],
     who: Identity,
     link: Link,
     handle: u16,
+    wish: Wish,
 ) -> Answer
-    ensures { λ r. ⌜ toldAnswer [] r ≡ canReadTold (now (list .entry)) store row (now (tables .entry)) who link handle ⌝ }
+    ensures { λ r. let s = lent (now (list .entry)) (now (store .entry)) (now (row .entry)) (now (tables .entry)) in
+        ⌜ toldAnswer [] r ≡ canTold s who wish link handle ⌝ }
 {
     if let Admission::No(a) = refusal::admit(list, store, row, tables, who) {
         return a;
     }
-    application::inner::accessed(attribute::needs::can_read(list, link, handle))
+    application::inner::accessed(attribute::needs::can(list, link, handle, wish))
 }
 
-// Whether a link may write it.
-pub fn can_write(
-    list: &[[u8; 32]],
-    store: usize,
-    row: [Slot; 8],
-    tables: &[[u8; 640]],
+// Whether it may read it.
+pub fn can_read(
+    list: &[Record],
+    store: &[u8],
+    row: &[SlotBytes],
+    tables: &[Table],
     who: Identity,
     link: Link,
     handle: u16,
 ) -> Answer
-    ensures { λ r. ⌜ toldAnswer [] r ≡ canWriteTold (now (list .entry)) store row (now (tables .entry)) who link handle ⌝ }
+    ensures { λ r. let s = lent (now (list .entry)) (now (store .entry)) (now (row .entry)) (now (tables .entry)) in
+        ⌜ toldAnswer [] r ≡ canTold s who Read link handle ⌝ }
 {
-    if let Admission::No(a) = refusal::admit(list, store, row, tables, who) {
-        return a;
-    }
-    application::inner::accessed(attribute::needs::can_write(list, link, handle))
+    can(list, store, row, tables, who, link, handle, Wish::Read)
+}
+
+// Whether it may write it.
+pub fn can_write(
+    list: &[Record],
+    store: &[u8],
+    row: &[SlotBytes],
+    tables: &[Table],
+    who: Identity,
+    link: Link,
+    handle: u16,
+) -> Answer
+    ensures { λ r. let s = lent (now (list .entry)) (now (store .entry)) (now (row .entry)) (now (tables .entry)) in
+        ⌜ toldAnswer [] r ≡ canTold s who Write link handle ⌝ }
+{
+    can(list, store, row, tables, who, link, handle, Wish::Write)
 }

@@ -1,4 +1,2 @@
 pub mod Telling
-pub mod Placing
-pub mod Eight
-pub mod Fresh
+pub mod Joining

@@ -7,8 +7,8 @@ use Rattle.model.specs.Told.{toldAnswer, Answered}
 use Rattle.model.specs.declared.Answer.{Answer}
 use Rattle.model.specs.declared.Answer.the-variants.{BadState, BadBuffer, BadPeer, BadTable, NoSlot, NoHandle, WrongLength, Code, Done, Nothing, Value}
 use Rattle.model.proofs.Telling.{front-length}
-use Rattle.writing.specs.declared.Changed.{Changed}
-use Rattle.attribute_server.specs.Request.{Call, Processed}
+use Rattle.state.specs.State.{State, Waiting}
+use Rattle.attribute_server.specs.Request.{Query, Processed}
 use Rattle.edge.specs.Reply.{asReply, replyTo, replyOf}
 use Rattle.edge.specs.Served.{Copied, Served}
 use Rattle.edge.specs.declared.Reply.{Reply}
@@ -33,7 +33,6 @@ replied a r t e q = q ∙ told-reply [] a ∙ ap replyTo e
 pub copied : (old new : List ℕ) (a : Answer) (r : Reply) (t : Told) → Answered old new a t → r ≡ replyOf a → Copied old new r t
 copied old new a r t w q = record { reply = q ∙ told-reply new a ∙ ap replyTo (w .told); out = w .out }
 
-pub served : (k : Call) (old : List ℕ) (c : Changed) (r : Reply) (list : List (List ℕ)) (store : List ℕ) (ts : List (List ℕ)) (bytes new : List ℕ)
-    → Processed k old c list store ts bytes new → r ≡ replyOf (c .answer) → Served k old r (c .prepared) list store ts bytes new
-served k old c r list store ts bytes new w q =
-    record { answer = copied old new (c .answer) r _ (w .answer) q; record-is = w .record-is; bytes-are = w .bytes-are; left = w .left }
+pub served : (s : State) (w : Waiting) (q : Query) (old : List ℕ) (a : Answer) (r : Reply) (s′ : State) (w′ : Waiting) (new : List ℕ)
+    → Processed s w q old a s′ w′ new → r ≡ replyOf a → Served s w q old r s′ w′ new
+served s w q old a r s′ w′ new p e = record { answer = copied old new a r _ (p .answer) e; left = p .left; waits = p .waits }

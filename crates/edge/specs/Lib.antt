@@ -1,5 +1,3 @@
 pub mod Reply
 pub mod Asked
 pub mod Served
-pub mod Place
-pub mod Opening

@@ -4,10 +4,9 @@ use mathlib.Core.Path.{_≡_}
 use mathlib.Core.List.{List}
 use lib.ListN.{length}
 use Rattle.table_view.specs.Told.{Told}
-use Rattle.state.specs.declared.Prepared.{Prepared}
+use Rattle.state.specs.State.{State, Waiting}
 use Rattle.model.specs.Told.{laidOn}
-use Rattle.model.specs.Change.{Left}
-use Rattle.attribute_server.specs.Request.{Call, processTold, processLent, processRecord, processBytes}
+use Rattle.attribute_server.specs.Request.{Query, processTold, processLeft, processWaits}
 use Rattle.edge.specs.Reply.{replyTo}
 use Rattle.edge.specs.declared.Reply.{Reply}
 
@@ -16,9 +15,8 @@ pub record Copied (old new : List ℕ) (r : Reply) (t : Told) : Type 0 where
   pub reply : r ≡ replyTo t
   pub out : new ≡ laidOn old t
 
--- a request: the reply and the buffer, the prepared write, and every lent byte
-pub record Served (k : Call) (old : List ℕ) (r : Reply) (next : Prepared) (list : List (List ℕ)) (store : List ℕ) (ts : List (List ℕ)) (bytes new : List ℕ) : Type 0 where
-  pub answer : Copied old new r (processTold k (length old))
-  pub record-is : next ≡ processRecord k (length old)
-  pub bytes-are : bytes ≡ processBytes k (length old)
-  pub left : Left (processLent k (length old)) list store ts
+-- a request: the reply and the buffer, the state, and what waits at the link
+pub record Served (s : State) (w : Waiting) (q : Query) (old : List ℕ) (r : Reply) (s′ : State) (w′ : Waiting) (new : List ℕ) : Type 0 where
+  pub answer : Copied old new r (processTold s w q (length old))
+  pub left : s′ ≡ processLeft s w q (length old)
+  pub waits : w′ ≡ processWaits s w q (length old)

@@ -1,6 +1,7 @@
-// The server's calls in plain numbers, as a boundary to C and Rust can carry them: answers as one small struct, links and requests by number. The row of
-// slots and the prepared write still go by value; the crate `hub` lends them.
+// The server's calls in plain numbers, as a boundary to C and Rust can carry them: answers as one small struct, links and requests by number. The
+// prepared write still goes by value; the crate `hub` lends it.
 pub mod connection;
+pub mod inner;
 pub mod number;
 pub mod opening;
 pub mod request;

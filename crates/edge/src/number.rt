@@ -46,7 +46,8 @@ pub fn reply(a: Answer) -> Reply
     }
 }
 
-fn refused(n: u8) -> Reply
+// Refused, by a number.
+pub fn refused(n: u8) -> Reply
     ensures { λ r. ⌜ r ≡ record { status = 4; code = n; len = 0 } ⌝ }
 {
     Reply {

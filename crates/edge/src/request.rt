@@ -1,13 +1,17 @@
 // Requests.
-ghost use Rattle.attribute_server.specs.Request.{call};
+ghost use Rattle.state.specs.State.{lent, waiting};
+ghost use Rattle.attribute_server.specs.Request.{query};
 ghost use Rattle.edge.specs.Asked.{linkOf, requestOf};
 ghost use Rattle.edge.specs.Served.{Served};
 use crate::Asked;
 use crate::Reply;
 use crate::number;
 use peers::Identity;
-use peers::Slot;
 use state::Prepared;
+use wire::sizes::PreparedBytes;
+use wire::sizes::Record;
+use wire::sizes::SlotBytes;
+use wire::sizes::Table;
 
 // A request answered: the reply, and the link's prepared write after it.
 pub struct Serving {
@@ -17,20 +21,22 @@ pub struct Serving {
 
 // Answers a request of a peer over a link of some level, into a buffer.
 pub fn process(
-    row: [Slot; 8],
-    list: &mut [[u8; 32]],
+    list: &mut [Record],
     store: &mut [u8],
-    tables: &mut [[u8; 640]],
+    row: &[SlotBytes],
+    tables: &mut [Table],
     who: Identity,
     level: u8,
     p: Prepared,
-    bytes: &mut [u8; 512],
+    bytes: &mut PreparedBytes,
     q: Asked,
     d: &[u8],
     out: &mut [u8],
 ) -> Serving
-    ensures { λ r. ⌜ Served (call (now (list .entry)) (now (store .entry)) row (now (tables .entry)) who (linkOf level) p (now (bytes .entry)) (requestOf q) (now (d .entry))) (now (out .entry))
-        (r .reply) (r .next) (now (list .exit)) (now (store .exit)) (now (tables .exit)) (now (bytes .exit)) (now (out .exit)) ⌝ }
+    ensures { λ r. let s = lent (now (list .entry)) (now (store .entry)) (now (row .entry)) (now (tables .entry)) in
+        ⌜ Served s (waiting p (now (bytes .entry))) (query who (linkOf level) (requestOf q) (now (d .entry))) (now (out .entry))
+        (r .reply) (lent (now (list .exit)) (now (store .exit)) (now (row .entry)) (now (tables .exit)))
+        (waiting (r .next) (now (bytes .exit))) (now (out .exit)) ⌝ }
 {
     let link = number::link(level);
     let rq = number::request(q);

@@ -1,22 +1,26 @@
 // Whether a peer has subscribed: done says yes, nothing no.
 ghost use mathlib.Core.Path.{_≡_};
+ghost use Rattle.state.specs.State.{lent};
 ghost use Rattle.attribute_server.specs.Subscription.{subscribedTold};
 ghost use Rattle.edge.specs.Reply.{replyTo};
 use crate::Reply;
 use crate::number;
 use peers::Identity;
-use peers::Slot;
+use wire::sizes::Record;
+use wire::sizes::SlotBytes;
+use wire::sizes::Table;
 
 // To notifications.
 pub fn should_notify(
-    row: [Slot; 8],
-    list: &[[u8; 32]],
-    store: usize,
-    tables: &[[u8; 640]],
+    list: &[Record],
+    store: &[u8],
+    row: &[SlotBytes],
+    tables: &[Table],
     who: Identity,
     handle: u16,
 ) -> Reply
-    ensures { λ r. ⌜ r ≡ replyTo (subscribedTold (now (list .entry)) store row (now (tables .entry)) who handle 1) ⌝ }
+    ensures { λ r. let s = lent (now (list .entry)) (now (store .entry)) (now (row .entry)) (now (tables .entry)) in
+        ⌜ r ≡ replyTo (subscribedTold s who handle 1) ⌝ }
 {
     let a = attribute_server::subscription::should_notify(list, store, row, tables, who, handle);
     number::reply(a)
@@ -24,14 +28,15 @@ pub fn should_notify(
 
 // To indications.
 pub fn should_indicate(
-    row: [Slot; 8],
-    list: &[[u8; 32]],
-    store: usize,
-    tables: &[[u8; 640]],
+    list: &[Record],
+    store: &[u8],
+    row: &[SlotBytes],
+    tables: &[Table],
     who: Identity,
     handle: u16,
 ) -> Reply
-    ensures { λ r. ⌜ r ≡ replyTo (subscribedTold (now (list .entry)) store row (now (tables .entry)) who handle 2) ⌝ }
+    ensures { λ r. let s = lent (now (list .entry)) (now (store .entry)) (now (row .entry)) (now (tables .entry)) in
+        ⌜ r ≡ replyTo (subscribedTold s who handle 2) ⌝ }
 {
     let a = attribute_server::subscription::should_indicate(list, store, row, tables, who, handle);
     number::reply(a)

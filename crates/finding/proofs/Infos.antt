@@ -9,6 +9,7 @@ use lib.ListN.{length, getD, drop, length-take, length-drop}
 use lib.Seq.{drop-cons}
 use lib.Dec.{eqb}
 use borrow.Author.Tests.{le-leb, lt-leb, eq-eqb, ne-eqb}
+use Rattle.wire.specs.Size.{recordBytes}
 use Rattle.wire.specs.Test.{both}
 use Rattle.wire.specs.Number.{wordBytes}
 use Rattle.wire.specs.Walk.{placeFrom}
@@ -91,7 +92,7 @@ module _ (want : Entry → Bool) (list : List (List ℕ)) (start room : ℕ) whe
       (from-entry (getD list i []) (drop (i + 1) list) size q)
 
 -- a UUID is shorter than its record
-pub uuid-short : (r u : List ℕ) → length r ≡ 32 → u ≡ uuidOf r → length u ≤ 32
+pub uuid-short : (r u : List ℕ) → length r ≡ recordBytes → u ≡ uuidOf r → length u ≤ 32
 unfolding uuidOf
 uuid-short r u h q = omega (arith, ap length q, length-take (getD r 11 0) (drop 12 r), length-drop 12 r)
 

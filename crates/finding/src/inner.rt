@@ -18,9 +18,10 @@ use attribute::Group;
 use attribute::Stretch;
 use model::Range;
 use wire::cursor::WriteCursor;
+use wire::sizes::Record;
 
 // The row of Find Information at place i, where the first UUID had `size` bytes. Nothing is written where the list ends here.
-fn info_row(list: &[[u8; 32]], size: usize, i: usize, out: &mut [u8], c: WriteCursor) -> WriteCursor
+fn info_row(list: &[Record], size: usize, i: usize, out: &mut [u8], c: WriteCursor) -> WriteCursor
     requires { ⌜ (i < length (now list)) × (c .len ≤ length (now out)) × (size ≤ 32) ⌝ }
     ensures { λ r. ⌜ Rowed (now (out .entry)) (now (out .exit)) c r (infoAt anyEntry size (getD (now (list .entry)) i []) (drop (i + 1) (now (list .entry))) (length (now (out .entry)) - c .len)) ⌝ }
 {
@@ -37,7 +38,7 @@ fn info_row(list: &[[u8; 32]], size: usize, i: usize, out: &mut [u8], c: WriteCu
 
 // The rows of a stretch.
 fn put_infos(
-    list: &[[u8; 32]],
+    list: &[Record],
     p: Stretch,
     size: usize,
     out: &mut [u8],
@@ -67,7 +68,7 @@ fn format(size: usize) -> u8
 }
 
 // Find Information (0x04).
-pub fn find_information(list: &[[u8; 32]], g: Range, out: &mut [u8]) -> usize
+pub fn find_information(list: &[Record], g: Range, out: &mut [u8]) -> usize
     requires { ⌜ Ascends (now list) × (5 ≤ length (now out)) ⌝ }
     ensures { λ r. ⌜ Sent (now (out .entry)) (now (out .exit)) r (infoRsp g (length (now (out .entry))) (entriesOf (now (list .entry)))) ⌝ }
 {
@@ -87,7 +88,7 @@ pub fn find_information(list: &[[u8; 32]], g: Range, out: &mut [u8]) -> usize
 }
 
 // Whether the entry at place i is a shared value that is d as a whole.
-fn holds(list: &[[u8; 32]], store: &[u8], i: usize, d: &[u8]) -> bool
+fn holds(list: &[Record], store: &[u8], i: usize, d: &[u8]) -> bool
     requires { ⌜ (i < length (now list)) × (listOk (now list) (length (now store)) ≡ true) ⌝ }
     ensures { λ r. ⌜ r ≡ holdsValue (now (store .entry)) (now (d .entry)) (getD (now (list .entry)) i []) ⌝ }
 {
@@ -101,7 +102,7 @@ fn holds(list: &[[u8; 32]], store: &[u8], i: usize, d: &[u8]) -> bool
 }
 
 // The row of Find By Type Value at place i; `end` is the end of its group. Nothing is written where there is no room.
-fn found_row(list: &[[u8; 32]], i: usize, end: u16, out: &mut [u8], c: WriteCursor) -> WriteCursor
+fn found_row(list: &[Record], i: usize, end: u16, out: &mut [u8], c: WriteCursor) -> WriteCursor
     requires { ⌜ (i < length (now list)) × (c .len ≤ length (now out)) × (end ≡ groupEndAt (now list) i) ⌝ }
     ensures { λ r. ⌜ Rowed (now (out .entry)) (now (out .exit)) c r (foundAt (getD (now (list .entry)) i []) (drop (i + 1) (now (list .entry))) (length (now (out .entry)) - c .len)) ⌝ }
 {
@@ -113,7 +114,7 @@ fn found_row(list: &[[u8; 32]], i: usize, end: u16, out: &mut [u8], c: WriteCurs
 }
 
 // Whether the entry at place i is of a type, and its value is d.
-fn is_found(list: &[[u8; 32]], store: &[u8], i: usize, uuid: &[u8], d: &[u8]) -> bool
+fn is_found(list: &[Record], store: &[u8], i: usize, uuid: &[u8], d: &[u8]) -> bool
     requires { ⌜ (i < length (now list)) × (listOk (now list) (length (now store)) ≡ true) ⌝ }
     ensures { λ r. ⌜ r ≡ both (isOf (now (uuid .entry)) (getD (now (list .entry)) i [])) (holdsValue (now (store .entry)) (now (d .entry)) (getD (now (list .entry)) i [])) ⌝ }
 {
@@ -125,7 +126,7 @@ fn is_found(list: &[[u8; 32]], store: &[u8], i: usize, uuid: &[u8], d: &[u8]) ->
 
 // The rows of a stretch: of its entries of the type that is asked for, whose short form has the number `value`, and whose value is d.
 fn put_found(
-    list: &[[u8; 32]],
+    list: &[Record],
     store: &[u8],
     p: Stretch,
     value: u16,
@@ -160,7 +161,7 @@ fn put_found(
 
 // Find By Type Value (0x06).
 pub fn find_by_type_value(
-    list: &[[u8; 32]],
+    list: &[Record],
     store: &[u8],
     g: Range,
     uuid: u16,

@@ -1,4 +1,1 @@
-pub mod Branch
-pub mod Row
 pub mod Refusing
-pub mod Whole

@@ -1,45 +1,43 @@
-// Tablets that come and go: the row of slots is lent, and the slot that changes is stored.
+// Tablets that come and go: the row of slots is lent, walked, and the one slot that changes is stored.
 ghost use mathlib.Core.Path.{_≡_};
-ghost use Rattle.attribute_server.specs.Connection.{connectTold, connectRow, connectTables, disconnectTold, disconnectRow, disconnectTables};
+ghost use Rattle.state.specs.State.{state};
+ghost use Rattle.attribute_server.specs.Connection.{connectTold, connectLeft, disconnectTold, disconnectLeft};
 ghost use Rattle.edge.specs.Reply.{replyTo};
 ghost use Rattle.edge.specs.Asked.{isSet};
 use edge::Reply;
+use edge::number::refused;
+use lent_row::first;
+use lent_row::load;
 use peers::Identity;
 use peers::Slot;
+use peers::Want;
+use wire::sizes::Record;
+use wire::sizes::SLOTS;
+use wire::sizes::Table;
 
 // Connects a peer.
 #[no_mangle]
 pub extern "C" fn ropethatch_connect(
     slots: &mut [Slot],
-    list: &[[u8; 32]],
-    store: usize,
-    tables: &mut [[u8; 640]],
+    list: &[Record],
+    store: &[u8],
+    tables: &mut [Table],
     who: Identity,
 ) -> Reply
-    ensures { λ r. ⌜ (r ≡ replyTo (connectTold (now (list .entry)) store (now (slots .entry)) (now (tables .entry)) who))
-        × (now (slots .exit) ≡ connectRow (now (list .entry)) store (now (slots .entry)) (now (tables .entry)) who)
-        × (now (tables .exit) ≡ connectTables (now (list .entry)) store (now (slots .entry)) (now (tables .entry)) who) ⌝ }
+    ensures { λ r. let s = state (now (list .entry)) (now (store .entry)) (now (slots .entry)) (now (tables .entry)) in
+        ⌜ (r ≡ replyTo (connectTold s who))
+        × (state (now (list .entry)) (now (store .entry)) (now (slots .exit)) (now (tables .exit)) ≡ connectLeft s who) ⌝ }
 {
-    if slots.len() != 8 {
-        return Reply {
-            status: 4,
-            code: 1,
-            len: 0,
-        };
+    if slots.len() != SLOTS {
+        return refused(1);
     }
-    let row = [
-        slots[0],
-        slots[1],
-        slots[2],
-        slots[3],
-        slots[4],
-        slots[5],
-        slots[6],
-        slots[7],
-    ];
-    let o = edge::connection::connect(row, list, store, tables, who);
+    let usable = first(slots, who, Want::Usable);
+    let free = first(slots, who, Want::Free);
+    let o = edge::inner::connect(list, store, load(slots), tables, who, usable, free);
     let at = o.place;
-    slots[at] = o.slot;
+    if at < slots.len() {
+        slots[at] = o.slot;
+    }
     o.reply
 }
 
@@ -47,35 +45,24 @@ pub extern "C" fn ropethatch_connect(
 #[no_mangle]
 pub extern "C" fn ropethatch_disconnect(
     slots: &mut [Slot],
-    list: &[[u8; 32]],
-    store: usize,
-    tables: &mut [[u8; 640]],
+    list: &[Record],
+    store: &[u8],
+    tables: &mut [Table],
     who: Identity,
     bonded: u8,
 ) -> Reply
-    ensures { λ r. ⌜ (r ≡ replyTo (disconnectTold (now (list .entry)) store (now (slots .entry)) (now (tables .entry)) who))
-        × (now (slots .exit) ≡ disconnectRow (now (list .entry)) store (now (slots .entry)) (now (tables .entry)) who (isSet bonded))
-        × (now (tables .exit) ≡ disconnectTables (now (list .entry)) store (now (slots .entry)) (now (tables .entry)) who (isSet bonded)) ⌝ }
+    ensures { λ r. let s = state (now (list .entry)) (now (store .entry)) (now (slots .entry)) (now (tables .entry)) in
+        ⌜ (r ≡ replyTo (disconnectTold s who (isSet bonded)))
+        × (state (now (list .entry)) (now (store .entry)) (now (slots .exit)) (now (tables .exit)) ≡ disconnectLeft s who (isSet bonded)) ⌝ }
 {
-    if slots.len() != 8 {
-        return Reply {
-            status: 4,
-            code: 1,
-            len: 0,
-        };
+    if slots.len() != SLOTS {
+        return refused(1);
     }
-    let row = [
-        slots[0],
-        slots[1],
-        slots[2],
-        slots[3],
-        slots[4],
-        slots[5],
-        slots[6],
-        slots[7],
-    ];
-    let o = edge::connection::disconnect(row, list, store, tables, who, bonded);
+    let own = first(slots, who, Want::Own);
+    let o = edge::inner::disconnect(list, store, load(slots), tables, who, bonded, own);
     let at = o.place;
-    slots[at] = o.slot;
+    if at < slots.len() {
+        slots[at] = o.slot;
+    }
     o.reply
 }

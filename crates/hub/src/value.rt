@@ -1,144 +1,83 @@
 // Values for the application, and what a link may do with them.
 ghost use mathlib.Core.Path.{_≡_};
 ghost use lib.ListN.{length};
-ghost use Rattle.model.specs.Change.{Left};
-ghost use Rattle.attribute_server.specs.Value.{getTold, setTold, setLent, canReadTold, canWriteTold};
+ghost use Rattle.attribute.specs.declared.Wish.the-variants.{Read, Write};
+ghost use Rattle.state.specs.State.{lent};
+ghost use Rattle.attribute_server.specs.Value.{getTold, setTold, setLeft, canTold};
 ghost use Rattle.edge.specs.Reply.{replyTo};
 ghost use Rattle.edge.specs.Asked.{linkOf};
 ghost use Rattle.edge.specs.Served.{Copied};
 use edge::Reply;
 use peers::Identity;
-use peers::Slot;
+use wire::sizes::Record;
+use wire::sizes::SlotBytes;
+use wire::sizes::Table;
 
 // Copies the value under a handle out.
 #[no_mangle]
 pub extern "C" fn ropethatch_get(
-    slots: &[Slot],
-    list: &[[u8; 32]],
+    row: &[SlotBytes],
+    list: &[Record],
     store: &[u8],
-    tables: &[[u8; 640]],
+    tables: &[Table],
     who: Identity,
     handle: u16,
     out: &mut [u8],
 ) -> Reply
-    ensures { λ r. ⌜ Copied (now (out .entry)) (now (out .exit)) r (getTold (now (list .entry)) (now (store .entry)) (now (slots .entry)) (now (tables .entry)) who handle (length (now (out .entry)))) ⌝ }
+    ensures { λ r. let s = lent (now (list .entry)) (now (store .entry)) (now (row .entry)) (now (tables .entry)) in
+        ⌜ Copied (now (out .entry)) (now (out .exit)) r (getTold s who handle (length (now (out .entry)))) ⌝ }
 {
-    if slots.len() != 8 {
-        return Reply {
-            status: 4,
-            code: 1,
-            len: 0,
-        };
-    }
-    let row = [
-        slots[0],
-        slots[1],
-        slots[2],
-        slots[3],
-        slots[4],
-        slots[5],
-        slots[6],
-        slots[7],
-    ];
-    edge::value::get(row, list, store, tables, who, handle, out)
+    edge::value::get(list, store, row, tables, who, handle, out)
 }
 
 // Sets the value under a handle.
 #[no_mangle]
 pub extern "C" fn ropethatch_set(
-    slots: &[Slot],
-    list: &mut [[u8; 32]],
+    row: &[SlotBytes],
+    list: &mut [Record],
     store: &mut [u8],
-    tables: &mut [[u8; 640]],
+    tables: &mut [Table],
     who: Identity,
     handle: u16,
     d: &[u8],
 ) -> Reply
-    ensures { λ r. ⌜ (r ≡ replyTo (setTold (now (list .entry)) (now (store .entry)) (now (slots .entry)) (now (tables .entry)) who handle (length (now (d .entry)))))
-        × Left (setLent (now (list .entry)) (now (store .entry)) (now (slots .entry)) (now (tables .entry)) who handle (now (d .entry))) (now (list .exit)) (now (store .exit)) (now (tables .exit)) ⌝ }
+    ensures { λ r. let s = lent (now (list .entry)) (now (store .entry)) (now (row .entry)) (now (tables .entry)) in
+        ⌜ (r ≡ replyTo (setTold s who handle (length (now (d .entry)))))
+        × (lent (now (list .exit)) (now (store .exit)) (now (row .entry)) (now (tables .exit)) ≡ setLeft s who handle (now (d .entry))) ⌝ }
 {
-    if slots.len() != 8 {
-        return Reply {
-            status: 4,
-            code: 1,
-            len: 0,
-        };
-    }
-    let row = [
-        slots[0],
-        slots[1],
-        slots[2],
-        slots[3],
-        slots[4],
-        slots[5],
-        slots[6],
-        slots[7],
-    ];
-    edge::value::set(row, list, store, tables, who, handle, d)
+    edge::value::set(list, store, row, tables, who, handle, d)
 }
 
 // Whether a link may read what stands under a handle.
 #[no_mangle]
 pub extern "C" fn ropethatch_can_read(
-    slots: &[Slot],
-    list: &[[u8; 32]],
-    store: usize,
-    tables: &[[u8; 640]],
+    row: &[SlotBytes],
+    list: &[Record],
+    store: &[u8],
+    tables: &[Table],
     who: Identity,
     level: u8,
     handle: u16,
 ) -> Reply
-    ensures { λ r. ⌜ r ≡ replyTo (canReadTold (now (list .entry)) store (now (slots .entry)) (now (tables .entry)) who (linkOf level) handle) ⌝ }
+    ensures { λ r. let s = lent (now (list .entry)) (now (store .entry)) (now (row .entry)) (now (tables .entry)) in
+        ⌜ r ≡ replyTo (canTold s who Read (linkOf level) handle) ⌝ }
 {
-    if slots.len() != 8 {
-        return Reply {
-            status: 4,
-            code: 1,
-            len: 0,
-        };
-    }
-    let row = [
-        slots[0],
-        slots[1],
-        slots[2],
-        slots[3],
-        slots[4],
-        slots[5],
-        slots[6],
-        slots[7],
-    ];
-    edge::value::can_read(row, list, store, tables, who, level, handle)
+    edge::value::can_read(list, store, row, tables, who, level, handle)
 }
 
 // Whether it may write there.
 #[no_mangle]
 pub extern "C" fn ropethatch_can_write(
-    slots: &[Slot],
-    list: &[[u8; 32]],
-    store: usize,
-    tables: &[[u8; 640]],
+    row: &[SlotBytes],
+    list: &[Record],
+    store: &[u8],
+    tables: &[Table],
     who: Identity,
     level: u8,
     handle: u16,
 ) -> Reply
-    ensures { λ r. ⌜ r ≡ replyTo (canWriteTold (now (list .entry)) store (now (slots .entry)) (now (tables .entry)) who (linkOf level) handle) ⌝ }
+    ensures { λ r. let s = lent (now (list .entry)) (now (store .entry)) (now (row .entry)) (now (tables .entry)) in
+        ⌜ r ≡ replyTo (canTold s who Write (linkOf level) handle) ⌝ }
 {
-    if slots.len() != 8 {
-        return Reply {
-            status: 4,
-            code: 1,
-            len: 0,
-        };
-    }
-    let row = [
-        slots[0],
-        slots[1],
-        slots[2],
-        slots[3],
-        slots[4],
-        slots[5],
-        slots[6],
-        slots[7],
-    ];
-    edge::value::can_write(row, list, store, tables, who, level, handle)
+    edge::value::can_write(list, store, row, tables, who, level, handle)
 }

@@ -25,6 +25,7 @@ use values::Span;
 use wire::Found;
 use wire::cursor::WriteCursor;
 use wire::least;
+use wire::sizes::Record;
 
 // How many bytes stand before a value.
 fn extra(form: Form) -> usize
@@ -45,7 +46,7 @@ fn cut(form: Form, room: usize, len: usize) -> usize
 // What stands before the value of the entry at place i: its handle, and the end of its group where the form wants it.
 fn put_lead(
     form: Form,
-    list: &[[u8; 32]],
+    list: &[Record],
     i: usize,
     end: u16,
     out: &mut [u8],
@@ -65,7 +66,7 @@ fn put_lead(
 // The row of an entry whose value lies at s: `size` bytes of it, behind its lead.
 fn put_value(
     form: Form,
-    list: &[[u8; 32]],
+    list: &[Record],
     store: &[u8],
     table: &[u8],
     s: Span,
@@ -88,7 +89,7 @@ fn put_value(
 // written where the list ends here.
 fn row(
     form: Form,
-    list: &[[u8; 32]],
+    list: &[Record],
     store: &[u8],
     table: &[u8],
     link: Link,
@@ -117,7 +118,7 @@ fn row(
 }
 
 // The group of the entry at place i, where the form wants its end: the one before, as long as it reaches that far.
-fn next_group(form: Form, list: &[[u8; 32]], group: Group, i: usize) -> Group
+fn next_group(form: Form, list: &[Record], group: Group, i: usize) -> Group
     requires { ⌜ (i < length (now list)) × (form .group ≡ true → InGroup (now list) i group) ⌝ }
     ensures { λ r. ⌜ (form .group ≡ true → (i < r .stop) × InGroup (now (list .entry)) i r) ⌝ }
 {
@@ -130,7 +131,7 @@ fn next_group(form: Form, list: &[[u8; 32]], group: Group, i: usize) -> Group
 // The rows of a stretch: of its entries of the type that is asked for, whose short form has the number `value`.
 fn put_list(
     form: Form,
-    list: &[[u8; 32]],
+    list: &[Record],
     store: &[u8],
     table: &[u8],
     link: Link,
@@ -168,7 +169,7 @@ fn put_list(
 // The answer of either: the first entry in the range that is of the type says how long the values are.
 fn read_by(
     form: Form,
-    list: &[[u8; 32]],
+    list: &[Record],
     store: &[u8],
     table: &[u8],
     link: Link,
@@ -209,7 +210,7 @@ fn read_by(
 
 // Read By Type (0x08).
 pub fn read_by_type(
-    list: &[[u8; 32]],
+    list: &[Record],
     store: &[u8],
     table: &[u8],
     link: Link,
@@ -231,7 +232,7 @@ pub fn read_by_type(
 
 // Read By Group Type (0x10).
 pub fn read_by_group_type(
-    list: &[[u8; 32]],
+    list: &[Record],
     store: &[u8],
     table: &[u8],
     link: Link,

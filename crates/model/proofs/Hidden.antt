@@ -11,14 +11,13 @@ use Rattle.wire.specs.First.{first}
 use Rattle.table_view.specs.View.{Item, view, isOf}
 use Rattle.attribute.specs.Record.{Entry, entryOf, attributeOf}
 use Rattle.attribute.specs.Needs.{mayRead, mayWrite}
-use Rattle.attribute.specs.declared.Attribute.{Attribute}
 use Rattle.attribute.specs.declared.Link.{Link}
 use Rattle.attribute.specs.declared.Access.{Access}
 use Rattle.attribute.specs.declared.Access.the-variants.{Granted, Denied}
 use Rattle.model.specs.Value.{Got, Bytes, Code, sharedItem, atValue, readOf, writeRule, itemWrite, writeOf}
 use Rattle.model.specs.View.{Seen, ifMet, seenBy, seenAll}
 use Rattle.model.specs.Run.{stop}
-use Rattle.model.specs.Rows.{extraOf, valueTurn, rowTurn}
+use Rattle.model.specs.Rows.{valueTurn, rowTurn}
 use Rattle.model.specs.declared.Form.{Form}
 
 -- a code alone

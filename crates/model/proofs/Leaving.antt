@@ -1,5 +1,5 @@
--- What a request leaves of the lent bytes: all as it was, or a value put at a listed place whose need the link meets. Said of two hubs with one list, side
--- by side; one hub stands beside itself. Assumes nothing.
+-- What a request leaves of a state: all as it was, or a value put at a listed place whose need the link meets. Said of two hubs with one list and one row,
+-- side by side; one hub stands beside itself. Assumes nothing.
 use mathlib.Core.Path.{_≡_, refl}
 use mathlib.Core.Bool.{Bool, true, false, cond}
 use mathlib.Core.List.{List, []}
@@ -14,9 +14,11 @@ use Rattle.attribute.specs.Needs.{mayWrite}
 use Rattle.attribute.specs.declared.Access.{Access}
 use Rattle.attribute.specs.declared.Access.the-variants.{Granted, Denied}
 use Rattle.attribute.specs.declared.Link.{Link}
+use Rattle.peers.specs.declared.Slot.{Slot}
+use Rattle.state.specs.State.{State, state}
 use Rattle.model.specs.View.{Pending}
 use Rattle.model.specs.Answer.{isDue}
-use Rattle.model.specs.Change.{Lent, lent, ifGranted, putAt, writtenAt, written, lentAfter, lentBy}
+use Rattle.model.specs.Change.{ifGranted, putAt, writtenAt, written, stateAfter, stateBy}
 use Rattle.model.specs.declared.Request.{Request}
 use Rattle.model.specs.declared.Request.the-variants as request
 use Rattle.model.specs.declared.Change.{Change}
@@ -26,13 +28,13 @@ use Rattle.model.specs.declared.Change.the-variants.{Write, WriteCommand
 pub listed : (list : List (List ℕ)) (h i : ℕ) → placeOf list h ≡ At i → i < length list
 listed list h i e = placed (hasHandle h) [] list 0 i e .inside
 
-module _ (link : Link) (list : List (List ℕ)) (store store′ : List ℕ) (ts ts′ : List (List ℕ)) (slot : Found) (R : Lent → Lent → Type 0) (old : R (lent list store ts) (lent list store′ ts′))
-    (put : (i : ℕ) → i < length list → mayWrite (attributeOf (getD list i [])) link ≡ Granted → (off : ℕ) (d : List ℕ) → R (putAt (lent list store ts) slot i off d) (putAt (lent list store′ ts′) slot i off d)) where
-  abbrev a : Lent
-  a = lent list store ts
+module _ (link : Link) (list : List (List ℕ)) (store store′ : List ℕ) (row : List Slot) (ts ts′ : List (List ℕ)) (slot : Found) (R : State → State → Type 0) (old : R (state list store row ts) (state list store′ row ts′))
+    (put : (i : ℕ) → i < length list → mayWrite (attributeOf (getD list i [])) link ≡ Granted → (off : ℕ) (d : List ℕ) → R (putAt (state list store row ts) slot i off d) (putAt (state list store′ row ts′) slot i off d)) where
+  abbrev a : State
+  a = state list store row ts
 
-  abbrev b : Lent
-  b = lent list store′ ts′
+  abbrev b : State
+  b = state list store′ row ts′
 
   met : (r : Access) (i : ℕ) → i < length list → mayWrite (attributeOf (getD list i [])) link ≡ r → (off : ℕ) (d : List ℕ) → R (ifGranted r (putAt a slot i off d) a) (ifGranted r (putAt b slot i off d) b)
   met Granted i l e off d = put i l e off d
@@ -49,15 +51,15 @@ module _ (link : Link) (list : List (List ℕ)) (store store′ : List ℕ) (ts 
   if-due true w = by-handle (w .handle) (w .offset) (w .bytes)
   if-due false w = old
 
-  change-leaves : (w : Pending) (c : Change) (d : List ℕ) → R (lentAfter link a slot w c d) (lentAfter link b slot w c d)
-  unfolding lentAfter
+  change-leaves : (w : Pending) (c : Change) (d : List ℕ) → R (stateAfter link a slot w c d) (stateAfter link b slot w c d)
+  unfolding stateAfter
   change-leaves w (Write h) d = by-handle h 0 d
   change-leaves w (WriteCommand h) d = by-handle h 0 d
   change-leaves w (PrepareWrite h off) d = old
   change-leaves w (ExecuteWrite flags) d = if-due (isDue w flags) w
 
-  pub both-leave : (w : Pending) (rq : Request) (d : List ℕ) → R (lentBy link a slot w rq d) (lentBy link b slot w rq d)
-  unfolding lentBy
+  pub both-leave : (w : Pending) (rq : Request) (d : List ℕ) → R (stateBy link a slot w rq d) (stateBy link b slot w rq d)
+  unfolding stateBy
   both-leave w (request.Ask q) d = old
   both-leave w (request.FindByTypeValue g uuid) d = old
   both-leave w (request.Change c) d = change-leaves w c d
@@ -65,7 +67,7 @@ module _ (link : Link) (list : List (List ℕ)) (store store′ : List ℕ) (ts 
   both-leave w request.Confirmation d = old
 
 -- of one hub
-pub request-leaves : (link : Link) (s : Lent) (slot : Found) (P : Lent → Type 0) → P s
+pub request-leaves : (link : Link) (s : State) (slot : Found) (P : State → Type 0) → P s
     → ((i : ℕ) → i < length (s .list) → mayWrite (attributeOf (getD (s .list) i [])) link ≡ Granted → (off : ℕ) (d : List ℕ) → P (putAt s slot i off d))
-    → (w : Pending) (rq : Request) (d : List ℕ) → P (lentBy link s slot w rq d)
-request-leaves link s slot P old put = both-leave link (s .list) (s .store) (s .store) (s .tables) (s .tables) slot (λ x y. P x) old put
+    → (w : Pending) (rq : Request) (d : List ℕ) → P (stateBy link s slot w rq d)
+request-leaves link s slot P old put = both-leave link (s .list) (s .store) (s .store) (s .row) (s .tables) (s .tables) slot (λ x y. P x) old put

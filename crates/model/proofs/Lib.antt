@@ -4,4 +4,5 @@ pub mod Sending
 pub mod Looking
 pub mod Telling
 pub mod Hidden
+pub mod States
 pub mod Leaving

@@ -7,6 +7,7 @@ use mathlib.Core.List.{List, [], _∷_, _++_}
 use lib.Dec.{ltb, eqb}
 use lib.ListN.{length, take}
 use lib.Seq.{sets}
+use Rattle.wire.specs.Size.{valueBytes}
 use Rattle.wire.specs.Test.{both}
 use Rattle.wire.specs.Number.{word, wordBytes}
 use Rattle.table_view.specs.Told.{Told, none, value}
@@ -97,7 +98,7 @@ askRsp l room ReadMultiple d = multipleRsp d
 -- Prepare Write of n bytes, after len bytes for another handle and offset: handle 0; another handle than the pending one; not where the pending bytes
 -- end; over 512 bytes. A link without a prepared write takes any handle and offset
 unfoldable pub sizeRule : ℕ → ℕ → Access
-sizeRule len n = cond (ltb 512 (len + n)) (Denied 0x09) Granted
+sizeRule len n = cond (ltb valueBytes (len + n)) (Denied 0x09) Granted
 
 unfoldable pub prepareRule : ℕ → ℕ → ℕ → ℕ → ℕ → ℕ → Access
 prepareRule handle offset len h off n =

@@ -1,6 +1,5 @@
 -- What the requests and `set` leave, in bytes (document 01, "Client table", "Attributes" and "Handlers"). Every byte that is not named stays. Assumes nothing.
 use Prim.Native.Nat.{ℕ, _+_}
-use mathlib.Core.Path.{_≡_}
 use mathlib.Core.Bool.{cond}
 use mathlib.Core.List.{List, []}
 use lib.Dec.{eqb}
@@ -15,6 +14,7 @@ use Rattle.attribute.specs.Needs.{mayWrite}
 use Rattle.attribute.specs.declared.Attribute.{Attribute}
 use Rattle.attribute.specs.declared.Link.{Link}
 use Rattle.attribute.specs.declared.Access.{Access}
+use Rattle.state.specs.State.{State}
 use Rattle.state.specs.declared.Prepared.{Prepared}
 use Rattle.model.specs.Value.{writeRule}
 use Rattle.model.specs.View.{Pending, ifMet}
@@ -23,21 +23,6 @@ use Rattle.model.specs.declared.Request.{Request}
 use Rattle.model.specs.declared.Request.the-variants as request
 use Rattle.model.specs.declared.Change.{Change}
 use Rattle.model.specs.declared.Change.the-variants.{Write, WriteCommand, PrepareWrite, ExecuteWrite}
-
--- the lent bytes that hold values
-pub record Lent : Type 0 where
-  pub list : List (List ℕ)
-  pub store : List ℕ
-  pub tables : List (List ℕ)
-
-abbrev pub lent : List (List ℕ) → List ℕ → List (List ℕ) → Lent
-lent list store ts = record { list = list; store = store; tables = ts }
-
--- these are the bytes that stand afterwards
-pub record Left (s : Lent) (list : List (List ℕ)) (store : List ℕ) (ts : List (List ℕ)) : Type 0 where
-  pub list-is : list ≡ s .list
-  pub store-is : store ≡ s .store
-  pub tables-are : ts ≡ s .tables
 
 abbrev pub ifGranted : {A : Type 0} → Access → A → A → A
 ifGranted a x y = ifMet a x (λ c. y)
@@ -59,29 +44,30 @@ ownTables ts Nothing h off d = ts
 ownTables ts (At k) h off d = set ts k (afterWrite (getD ts k []) h off d)
 
 -- d at an offset of the value of the entry at place i
-unfoldable pub putAt : Lent → Found → ℕ → ℕ → List ℕ → Lent
+unfoldable pub putAt : State → Found → ℕ → ℕ → List ℕ → State
 putAt s slot i off d =
     let a = attributeOf (getD (s .list) i []) in
     record {
       list = cond (a .client) (s .list) (sharedList (s .list) i a off (length d));
       store = cond (a .client) (s .store) (sharedStore (s .store) a off d);
+      row = s .row;
       tables = cond (a .client) (ownTables (s .tables) slot (a .handle) off d) (s .tables);
     }
 
 -- the same behind the permission test, by handle
-abbrev pub writtenAt : Link → Lent → Found → Found → ℕ → List ℕ → Lent
+abbrev pub writtenAt : Link → State → Found → Found → ℕ → List ℕ → State
 writtenAt link s slot Nothing off d = s
 writtenAt link s slot (At i) off d = ifGranted (mayWrite (attributeOf (getD (s .list) i [])) link) (putAt s slot i off d) s
 
-abbrev pub written : Link → Lent → Found → ℕ → ℕ → List ℕ → Lent
+abbrev pub written : Link → State → Found → ℕ → ℕ → List ℕ → State
 written link s slot h off d = writtenAt link s slot (placeOf (s .list) h) off d
 
--- the lent bytes after a request that may change something: w is what is pending, d what the request brings
-unfoldable pub lentAfter : Link → Lent → Found → Pending → Change → List ℕ → Lent
-lentAfter link s slot w (Write h) d = written link s slot h 0 d
-lentAfter link s slot w (WriteCommand h) d = written link s slot h 0 d
-lentAfter link s slot w (PrepareWrite h off) d = s
-lentAfter link s slot w (ExecuteWrite flags) d =
+-- the state after a request that may change something: w is what is pending, d what the request brings
+unfoldable pub stateAfter : Link → State → Found → Pending → Change → List ℕ → State
+stateAfter link s slot w (Write h) d = written link s slot h 0 d
+stateAfter link s slot w (WriteCommand h) d = written link s slot h 0 d
+stateAfter link s slot w (PrepareWrite h off) d = s
+stateAfter link s slot w (ExecuteWrite flags) d =
     cond (isDue w flags) (written link s slot (w .handle) (w .offset) (w .bytes)) s
 
 -- the link's prepared write: what Prepare takes is appended; after Execute there is none, whatever it answers
@@ -108,12 +94,12 @@ dataAfter p bytes (PrepareWrite h off) d = ifGranted (mayPrepare p h off (length
 dataAfter p bytes (ExecuteWrite flags) d = bytes
 
 -- the same of any request: only those that may change something do
-unfoldable pub lentBy : Link → Lent → Found → Pending → Request → List ℕ → Lent
-lentBy link s slot w (request.Ask a) d = s
-lentBy link s slot w (request.FindByTypeValue g uuid) d = s
-lentBy link s slot w (request.Change c) d = lentAfter link s slot w c d
-lentBy link s slot w (request.ExchangeMtu mtu) d = s
-lentBy link s slot w request.Confirmation d = s
+unfoldable pub stateBy : Link → State → Found → Pending → Request → List ℕ → State
+stateBy link s slot w (request.Ask a) d = s
+stateBy link s slot w (request.FindByTypeValue g uuid) d = s
+stateBy link s slot w (request.Change c) d = stateAfter link s slot w c d
+stateBy link s slot w (request.ExchangeMtu mtu) d = s
+stateBy link s slot w request.Confirmation d = s
 
 unfoldable pub recordBy : Prepared → Request → ℕ → Prepared
 recordBy p (request.Ask a) n = p

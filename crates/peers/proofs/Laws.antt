@@ -1,24 +1,26 @@
 -- Laws of identities and of the slots' tests, in the form in which a need asks them. Assumes nothing.
-use mathlib.Core.Path.{_≡_, refl, sym, ap}
-use mathlib.Core.Bool.{Bool, true, false}
-use mathlib.Core.List.{List}
-use Prim.Native.Nat.{ℕ, _<_}
+use mathlib.Core.Path.{_≡_, refl, sym, ap, _∙_}
+use mathlib.Core.Bool.{Bool, true, false, cond}
+use mathlib.Core.Logic.{_⊎_, inl, inr}
+use mathlib.Core.List.{List, []}
+use Prim.Native.Nat.{ℕ, _+_, _≤_, _<_}
 use native.Mathlib.Omega.{arith}
-use lib.ListN.{length}
-use lib.Dec.{ltb}
+use lib.ListN.{length, getD, length-map, List·getD-map}
+use lib.Dec.{ltb, eqb}
 use borrow.Author.Tests.{eq-eqb, ne-eqb}
 use Rattle.wire.specs.Test.{both}
 use Rattle.wire.specs.Bytes.{zeros}
 use Rattle.wire.specs.Walk.{placeFrom}
-use Rattle.wire.specs.declared.Found.{Found}
 use Rattle.wire.specs.declared.Found.the-variants.{At, Nothing}
 use Rattle.wire.proofs.Tests.{both-false-l}
-use Rattle.wire.proofs.Walk.{placed}
+use Rattle.wire.proofs.Walk.{placed, hit, miss, none-left}
 use Rattle.peers.specs.Identity.{sameId, isEmpty, isBad}
-use Rattle.peers.specs.Slots.{matches, slotOf, isUsable, isFree, byFree, byUsable, choiceOf, left, nobody, noSlot}
+use Rattle.peers.specs.Bytes.{slotIn, rowOf}
+use Rattle.peers.specs.Slots.{matches, wanted, walk, slotOf, left, nobody, noSlot}
 use Rattle.peers.specs.declared.Identity.{Identity}
 use Rattle.peers.specs.declared.Slot.{Slot}
-use Rattle.peers.specs.declared.Choice.the-variants.{Take, Retake, Full}
+use Rattle.peers.specs.declared.Want.{Want}
+use Rattle.peers.specs.declared.Want.the-variants.{Own, Usable, Free}
 
 module _ (a : Identity) where
   pub some-kind : (a .kind ≡ 0 → ⊥) → false ≡ isEmpty a
@@ -37,63 +39,23 @@ module _ (a : Identity) where
   unfolding isBad
   by-kind h = rw h
 
+-- what a slot answers to a walk
 module _ (who : Identity) (s : Slot) where
-  pub own-usable : sameId (s .id) who ≡ true → true ≡ isUsable who s
-  unfolding isUsable
+  pub own-wanted : sameId (s .id) who ≡ wanted Own who s
+  unfolding wanted matches
+  own-wanted = refl
+
+  pub own-usable : sameId (s .id) who ≡ true → true ≡ wanted Usable who s
+  unfolding wanted matches
   own-usable h = rw h
 
-  pub by-empty : sameId (s .id) who ≡ false → isEmpty (s .id) ≡ isUsable who s
-  unfolding isUsable
+  pub by-empty : sameId (s .id) who ≡ false → isEmpty (s .id) ≡ wanted Usable who s
+  unfolding wanted matches
   by-empty h = rw h
 
--- the choice, by what the two walks find
-module _ (row : List Slot) (who : Identity) where
-  pub takes : (i : ℕ) → placeFrom (isUsable who) row 0 ≡ At i → Take i ≡ choiceOf row who
-  unfolding choiceOf
-  takes i h = ap (λ (f : Found). byUsable f (placeFrom isFree row 0)) (sym h)
-
-  pub retakes : (i : ℕ) → placeFrom (isUsable who) row 0 ≡ Nothing → placeFrom isFree row 0 ≡ At i → Retake i ≡ choiceOf row who
-  unfolding choiceOf
-  retakes i h k = rw (h, k)
-
-  pub is-full : placeFrom (isUsable who) row 0 ≡ Nothing → placeFrom isFree row 0 ≡ Nothing → Full ≡ choiceOf row who
-  unfolding choiceOf
-  is-full h k = rw (h, k)
-
--- and back: where a choice lies
-by-free : (f : Found) (i : ℕ) → byFree f ≡ Retake i → f ≡ At i
-by-free (At j) i h = let e : j ≡ i = cc in rw e
-by-free Nothing i h = let z : _≡_ {A = ℕ} 0 1 = cc in absurd (omega arith)
-
-never-take : (f : Found) (i : ℕ) → byFree f ≡ Take i → ⊥
-never-take (At j) i h = let z : _≡_ {A = ℕ} 0 1 = cc in omega arith
-never-take Nothing i h = let z : _≡_ {A = ℕ} 0 1 = cc in omega arith
-
-by-take : (f g : Found) (i : ℕ) → byUsable f g ≡ Take i → f ≡ At i
-by-take (At j) g i h = let e : j ≡ i = cc in rw e
-by-take Nothing g i h = absurd (never-take g i h)
-
-by-retake : (f g : Found) (i : ℕ) → byUsable f g ≡ Retake i → (f ≡ Nothing) × (g ≡ At i)
-by-retake (At j) g i h = let z : _≡_ {A = ℕ} 0 1 = cc in absurd (omega arith)
-by-retake Nothing g i h = (refl, by-free g i h)
-
-module _ (row : List Slot) (who : Identity) (i : ℕ) where
-  pub take-found : choiceOf row who ≡ Take i → placeFrom (isUsable who) row 0 ≡ At i
-  unfolding choiceOf
-  take-found h = by-take _ _ i h
-
-  pub retake-found : choiceOf row who ≡ Retake i → (placeFrom (isUsable who) row 0 ≡ Nothing) × (placeFrom isFree row 0 ≡ At i)
-  unfolding choiceOf
-  retake-found h = by-retake _ _ i h
-
-  pub take-inside : choiceOf row who ≡ Take i → i < length row
-  take-inside h = placed (isUsable who) noSlot row 0 i (take-found h) .inside
-
-  pub retake-inside : choiceOf row who ≡ Retake i → i < length row
-  retake-inside h = placed isFree noSlot row 0 i (retake-found h .1) .inside
-
-  pub slot-inside : slotOf row who ≡ At i → i < length row
-  slot-inside h = placed (matches who) noSlot row 0 i h .inside
+  pub by-flag : eqb (s .connected) 0 ≡ wanted Free who s
+  unfolding wanted
+  by-flag = refl
 
 pub left-bonded : (s : Slot) (bonded : Bool) → bonded ≡ true → record { id = s .id; connected = 0 } ≡ left bonded s
 unfolding left
@@ -103,10 +65,46 @@ pub left-unbonded : (s : Slot) (bonded : Bool) → bonded ≡ false → record {
 unfolding left
 left-unbonded s bonded h = rw h
 
-pub free-slot : (s : Slot) → s .connected ≡ 0 → isFree s ≡ true
-unfolding isFree
-free-slot s h = eq-eqb (s .connected) 0 h
+-- a turn of the walk over a row in bytes, and its end: the test is of the slot that the bytes are
+module _ (p : Slot → Bool) (es : List (List ℕ)) (i : ℕ) where
+  tested : {s : Slot} {t u : Bool} → s ≡ slotIn (getD es i []) → t ≡ p s → t ≡ u → p (getD (rowOf es) i (slotIn [])) ≡ u
+  tested e f h = ap p (List·getD-map slotIn es i [] ∙ sym e) ∙ sym f ∙ h
 
-pub held-slot : (s : Slot) → (s .connected ≡ 0 → ⊥) → isFree s ≡ false
-unfolding isFree
-held-slot s h = ne-eqb (s .connected) 0 h
+  pub row-hit : {s : Slot} {t : Bool} → i < length es → s ≡ slotIn (getD es i []) → t ≡ p s → t ≡ true → placeFrom p (rowOf es) i ≡ At i
+  row-hit l e f h = hit p (slotIn []) (rowOf es) i (omega (arith, length-map es slotIn)) (tested e f h)
+
+  pub row-miss : {s : Slot} {t : Bool} → i < length es → s ≡ slotIn (getD es i []) → t ≡ p s → t ≡ false → placeFrom p (rowOf es) i ≡ placeFrom p (rowOf es) (i + 1)
+  row-miss l e f h = miss p (slotIn []) (rowOf es) i (omega (arith, length-map es slotIn)) (tested e f h)
+
+  pub row-end : length es ≤ i → placeFrom p (rowOf es) i ≡ Nothing
+  row-end l = none-left p (slotIn []) (rowOf es) i (omega (arith, length-map es slotIn))
+
+-- where a walk stops
+module _ (row : List Slot) (who : Identity) (want : Want) where
+  pub walk-inside : (i : ℕ) → walk want row who ≡ At i → i < length row
+  walk-inside i h = placed (wanted want who) noSlot row 0 i h .inside
+
+pub slot-inside : (row : List Slot) (who : Identity) (i : ℕ) → slotOf row who ≡ At i → i < length row
+slot-inside row who i h = walk-inside row who Own i h
+
+-- the tests, as what they say
+module _ (who : Identity) (s : Slot) where
+  pub matches-same : matches who s ≡ sameId (s .id) who
+  unfolding matches
+  matches-same = refl
+
+  pub wanted-own : wanted Own who s ≡ matches who s
+  unfolding wanted
+  wanted-own = refl
+
+  pub wanted-free : wanted Free who s ≡ eqb (s .connected) 0
+  unfolding wanted
+  wanted-free = refl
+
+  pub usable-own-or-empty : wanted Usable who s ≡ true → (matches who s ≡ true) ⊎ (isEmpty (s .id) ≡ true)
+  unfolding wanted
+  usable-own-or-empty = by (matches who s) refl
+    where
+      by : (t : Bool) → matches who s ≡ t → cond t true (isEmpty (s .id)) ≡ true → (matches who s ≡ true) ⊎ (isEmpty (s .id) ≡ true)
+      by true e h = inl e
+      by false e h = inr h

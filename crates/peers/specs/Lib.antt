@@ -1,2 +1,3 @@
 pub mod Identity
+pub mod Bytes
 pub mod Slots

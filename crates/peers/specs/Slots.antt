@@ -2,10 +2,11 @@
 -- tables are after it connects and after it leaves. Assumes nothing.
 use Prim.Native.Nat.{ℕ, _<_}
 use mathlib.Core.Path.{_≡_}
-use mathlib.Core.Bool.{Bool, true, false, cond}
+use mathlib.Core.Bool.{Bool, true, false, cond, not}
 use mathlib.Core.List.{List, [], _∷_}
 use lib.ListN.{length, getD, set}
 use lib.Dec.{eqb}
+use Rattle.wire.specs.Size.{slotCount}
 use Rattle.wire.specs.Walk.{placeFrom}
 use Rattle.wire.specs.declared.Found.{Found}
 use Rattle.wire.specs.declared.Found.the-variants.{At, Nothing}
@@ -14,64 +15,45 @@ use Rattle.client_att_table.specs.Clear.{cleared}
 use Rattle.peers.specs.Identity.{sameId, isEmpty}
 use Rattle.peers.specs.declared.Identity.{Identity}
 use Rattle.peers.specs.declared.Slot.{Slot}
-use Rattle.peers.specs.declared.Choice.{Choice}
-use Rattle.peers.specs.declared.Choice.the-variants.{Take, Retake, Full}
+use Rattle.peers.specs.declared.Want.{Want}
+use Rattle.peers.specs.declared.Want.the-variants.{Own, Usable, Free}
+use Rattle.peers.specs.declared.Move.{Move}
 
 -- a slot is a peer's where the identities match
-abbrev pub matches : Identity → Slot → Bool
+unfoldable pub matches : Identity → Slot → Bool
 matches who s = sameId (s .id) who
+
+-- what a walk wants: the peer's own slot; one that matches or is empty; one not connected
+unfoldable pub wanted : Want → Identity → Slot → Bool
+wanted Own who s = matches who s
+wanted Usable who s = cond (matches who s) true (isEmpty (s .id))
+wanted Free who s = eqb (s .connected) 0
+
+-- the first slot that is wanted
+abbrev pub walk : Want → List Slot → Identity → Found
+walk want row who = placeFrom (wanted want who) row 0
 
 -- reads and writes use the first matching slot, connected or not
 abbrev pub slotOf : List Slot → Identity → Found
-slotOf row who = placeFrom (matches who) row 0
+slotOf row who = walk Own row who
 
--- first walk: the first slot that matches or is empty
-unfoldable pub isUsable : Identity → Slot → Bool
-isUsable who s = cond (matches who s) true (isEmpty (s .id))
-
--- second walk: the first slot not connected
-unfoldable pub isFree : Slot → Bool
-isFree s = eqb (s .connected) 0
-
-abbrev pub byFree : Found → Choice
-byFree (At i) = Retake i
-byFree Nothing = Full
-
-abbrev pub byUsable : Found → Found → Choice
-byUsable (At i) free = Take i
-byUsable Nothing free = byFree free
-
-unfoldable pub choiceOf : List Slot → Identity → Choice
-choiceOf row who = byUsable (placeFrom (isUsable who) row 0) (placeFrom isFree row 0)
+-- a place that was found lies in a row of n
+abbrev pub Inside : Found → ℕ → Type 0
+Inside (At i) n = i < n
+Inside Nothing n = Unit {0}
 
 -- the slot with its new owner
 abbrev pub taken : Identity → Slot
 taken who = record { id = who; connected = 1 }
 
--- the row and the tables after a choice: a slot that is retaken is cleared; where there is none, refusal 7 and no change
-abbrev pub rowBy : List Slot → Identity → Choice → List Slot
-rowBy row who (Take i) = set row i (taken who)
-rowBy row who (Retake i) = set row i (taken who)
-rowBy row who Full = row
+-- connecting: the first slot that matches or is empty is taken as it is; else the first not connected is cleared and taken; else there is none
+abbrev pub joined : ℕ → Identity → Found → Found → Move
+joined n who (At i) free = record { place = i; slot = taken who; clears = false; full = false }
+joined n who Nothing (At i) = record { place = i; slot = taken who; clears = true; full = false }
+joined n who Nothing Nothing = record { place = n; slot = taken who; clears = false; full = true }
 
-abbrev pub clearAt : List (List ℕ) → ℕ → List (List ℕ)
-clearAt ts i = set ts i (cleared (getD ts i []))
-
-abbrev pub tablesAfter : List (List ℕ) → Choice → List (List ℕ)
-tablesAfter ts (Take i) = ts
-tablesAfter ts (Retake i) = clearAt ts i
-tablesAfter ts Full = ts
-
-abbrev pub fullBy : Choice → Bool
-fullBy (Take i) = false
-fullBy (Retake i) = false
-fullBy Full = true
-
-abbrev pub rowAfter : List Slot → Identity → List Slot
-rowAfter row who = rowBy row who (choiceOf row who)
-
-abbrev pub isFull : List Slot → Identity → Bool
-isFull row who = fullBy (choiceOf row who)
+unfoldable pub connecting : List Slot → Identity → Move
+connecting row who = joined (length row) who (walk Usable row who) (walk Free row who)
 
 -- leaving: the first matching slot is marked not connected; where the peer is unbonded, its identity is emptied and its table cleared
 abbrev pub nobody : Identity
@@ -84,21 +66,24 @@ left bonded s = cond bonded (record { id = s .id; connected = 0 }) (record { id 
 abbrev pub noSlot : Slot
 noSlot = record { id = record { kind = 0; addr = [] }; connected = 0 }
 
-abbrev pub leftBy : List Slot → Bool → Found → List Slot
-leftBy row bonded Nothing = row
-leftBy row bonded (At i) = set row i (left bonded (getD row i noSlot))
+abbrev pub parted : List Slot → Bool → Found → Move
+parted row bonded (At i) = record { place = i; slot = left bonded (getD row i noSlot); clears = not bonded; full = false }
+parted row bonded Nothing = record { place = length row; slot = record { id = nobody; connected = 0 }; clears = false; full = false }
 
-abbrev pub clearedBy : List (List ℕ) → Bool → Found → List (List ℕ)
-clearedBy ts bonded Nothing = ts
-clearedBy ts bonded (At i) = cond bonded ts (clearAt ts i)
+unfoldable pub leaving : List Slot → Identity → Bool → Move
+leaving row who bonded = parted row bonded (slotOf row who)
 
-abbrev pub rowLeft : List Slot → Identity → Bool → List Slot
-rowLeft row who bonded = leftBy row bonded (slotOf row who)
+-- the row and the tables after a move; past the end of the row nothing is set
+abbrev pub rowMoved : List Slot → Move → List Slot
+rowMoved row m = set row (m .place) (m .slot)
 
-abbrev pub tablesLeft : List (List ℕ) → List Slot → Identity → Bool → List (List ℕ)
-tablesLeft ts row who bonded = clearedBy ts bonded (slotOf row who)
+abbrev pub clearAt : List (List ℕ) → ℕ → List (List ℕ)
+clearAt ts i = set ts i (cleared (getD ts i []))
 
--- what the walks ask of the tables: eight of them, each one that the reading rules accept
+abbrev pub tablesMoved : List (List ℕ) → Move → List (List ℕ)
+tablesMoved ts m = cond (m .clears) (clearAt ts (m .place)) ts
+
+-- what the calls ask of the tables: eight of them, each one that the reading rules accept
 pub record Tables (ts : List (List ℕ)) : Type 0 where
-  pub eight : length ts ≡ 8
-  pub read : (i : ℕ) → i < 8 → accepts (getD ts i []) ≡ true
+  pub eight : length ts ≡ slotCount
+  pub read : (i : ℕ) → i < slotCount → accepts (getD ts i []) ≡ true

@@ -1,5 +1,6 @@
 // Who is connected: identities, and the row of eight slots, each with a client table beside it.
 pub mod inner;
+pub mod one;
 pub mod who;
 
 // A peer: the kind of its address, and the address, low byte first. All zeros is the empty identity, nobody's.
@@ -16,15 +17,18 @@ pub struct Slot {
     pub connected: u8,
 }
 
-// Which slot a connecting peer gets: one that it takes as it is, one that is cleared first, or none.
-pub enum Choice {
-    Take(usize),
-    Retake(usize),
-    Full,
+// What a walk over the row wants: the peer's own slot; its own or an empty one; one that is not connected.
+pub enum Want {
+    Own,
+    Usable,
+    Free,
 }
 
-// The row after a call, with its answer.
-pub struct Row {
-    pub slots: [Slot; 8],
+// What connecting or leaving comes to: which place of the row changes, and the end of the row for none; the slot there then; whether its
+// table is cleared; and whether there was no slot to have.
+pub struct Move {
+    pub place: usize,
+    pub slot: Slot,
+    pub clears: bool,
     pub full: bool,
 }

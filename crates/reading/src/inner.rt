@@ -14,6 +14,7 @@ use attribute::Link;
 use values::Located;
 use wire::cursor::WriteCursor;
 use wire::least;
+use wire::sizes::Record;
 
 // The value from an offset on behind its opcode, or the error. The offset is tested after the permission that `v` has passed.
 fn respond(
@@ -46,7 +47,7 @@ fn respond(
 
 // Read (0x0A).
 pub fn read(
-    list: &[[u8; 32]],
+    list: &[Record],
     store: &[u8],
     table: &[u8],
     link: Link,
@@ -62,7 +63,7 @@ pub fn read(
 
 // Read Blob (0x0C).
 pub fn read_blob(
-    list: &[[u8; 32]],
+    list: &[Record],
     store: &[u8],
     table: &[u8],
     link: Link,
@@ -89,7 +90,7 @@ pub fn read_multiple(handles: &[u8], out: &mut [u8]) -> usize
 }
 
 // The value of the entry at place i, whoever asks, into a buffer of any length.
-pub fn copy_value(list: &[[u8; 32]], store: &[u8], table: &[u8], i: usize, out: &mut [u8]) -> Copied
+pub fn copy_value(list: &[Record], store: &[u8], table: &[u8], i: usize, out: &mut [u8]) -> Copied
     requires { ⌜ (i < length (now list)) × Ready (now list) (length (now store)) (now table) ⌝ }
     ensures { λ r. ⌜ (r ≡ copiedOf (length (now (out .entry))) (readOf (now (store .entry)) (now (table .entry)) (attributeOf (getD (now (list .entry)) i []))))
         × (now (out .exit) ≡ copyOf (now (out .entry)) (readOf (now (store .entry)) (now (table .entry)) (attributeOf (getD (now (list .entry)) i [])))) ⌝ }

@@ -2,33 +2,24 @@
 use mathlib.Core.Bool.{Bool, true, false, cond}
 use Rattle.wire.specs.declared.Found.{Found}
 use Rattle.wire.specs.declared.Found.the-variants.{Nothing}
-use Rattle.model.specs.declared.Ask.{Ask}
 use Rattle.model.specs.declared.Ask.the-variants.{FindInformation, ReadByType, ReadByGroupType, Read, ReadBlob, ReadMultiple}
-use Rattle.model.specs.declared.Change.{Change}
 use Rattle.model.specs.declared.Change.the-variants.{Write, WriteCommand, PrepareWrite, ExecuteWrite}
 use Rattle.model.specs.declared.Request.{Request}
 use Rattle.model.specs.declared.Request.the-variants as request
 
--- Find Information tells handles and types, and Read Multiple is not served
-unfoldable pub readsOwn : Ask → Bool
-readsOwn (FindInformation g) = false
-readsOwn (ReadByType g) = true
-readsOwn (ReadByGroupType g) = true
-readsOwn (Read h) = true
-readsOwn (ReadBlob h off) = true
-readsOwn ReadMultiple = false
-
--- Prepare Write changes the link's record alone
-unfoldable pub writesOwn : Change → Bool
-writesOwn (Write h) = true
-writesOwn (WriteCommand h) = true
-writesOwn (PrepareWrite h off) = false
-writesOwn (ExecuteWrite flags) = true
-
-unfoldable pub needsSlot : Request → Bool
-needsSlot (request.Ask a) = readsOwn a
+-- Find Information tells handles and types, Read Multiple is not served, and Prepare Write changes the link's record alone
+abbrev pub needsSlot : Request → Bool
+needsSlot (request.Ask (FindInformation g)) = false
+needsSlot (request.Ask (ReadByType g)) = true
+needsSlot (request.Ask (ReadByGroupType g)) = true
+needsSlot (request.Ask (Read h)) = true
+needsSlot (request.Ask (ReadBlob h off)) = true
+needsSlot (request.Ask ReadMultiple) = false
 needsSlot (request.FindByTypeValue g uuid) = false
-needsSlot (request.Change c) = writesOwn c
+needsSlot (request.Change (Write h)) = true
+needsSlot (request.Change (WriteCommand h)) = true
+needsSlot (request.Change (PrepareWrite h off)) = false
+needsSlot (request.Change (ExecuteWrite flags)) = true
 needsSlot (request.ExchangeMtu mtu) = false
 needsSlot request.Confirmation = false
 

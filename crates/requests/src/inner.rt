@@ -3,15 +3,17 @@ ghost use mathlib.Core.Path.{_≡_};
 ghost use mathlib.Core.Bool.{true};
 ghost use Prim.Native.Nat.{_≤_};
 ghost use lib.ListN.{length};
+ghost use Rattle.wire.specs.Size.{valueBytes};
+ghost use Rattle.state.specs.State.{Becomes};
 ghost use Rattle.state.specs.Valid.{recordOk};
 ghost use Rattle.model.specs.View.{pendingOf, tableAt, seenAll, viewOf};
 ghost use Rattle.model.specs.Answer.{Sent, askRsp, requestTold};
 ghost use Rattle.model.specs.Told.{Answered};
-ghost use Rattle.model.specs.Change.{lent, Left, lentBy, recordBy, dataBy};
+ghost use Rattle.model.specs.Change.{stateBy, recordBy, dataBy};
 ghost use Rattle.values.specs.Locate.{Ready as ReadReady};
 ghost use Rattle.storing.specs.Ready.{Ready};
 ghost use Rattle.requests.specs.Fits.{RequestFits};
-ghost use Rattle.requests.specs.Slot.{readsOwn, writesOwn, needsSlot};
+ghost use Rattle.requests.specs.Slot.{needsSlot};
 use attribute::Link;
 use model::Answer;
 use model::Ask;
@@ -19,13 +21,15 @@ use model::Change;
 use model::Request;
 use state::Prepared;
 use wire::Found;
+use wire::sizes::Record;
+use wire::sizes::Table;
 use writing::Changed;
 use writing::inner::change;
 use writing::inner::with_record;
 
 // The requests that only read, with the asking peer's own table.
 fn ask(
-    list: &[[u8; 32]],
+    list: &[Record],
     store: &[u8],
     table: &[u8],
     link: Link,
@@ -64,9 +68,9 @@ fn ask(
 
 // The same with the peer's slot: a peer without one has the table that has no entries.
 fn ask_from(
-    list: &[[u8; 32]],
+    list: &[Record],
     store: &[u8],
-    tables: &[[u8; 640]],
+    tables: &[Table],
     slot: Found,
     link: Link,
     rq: Ask,
@@ -82,46 +86,32 @@ fn ask_from(
     }
 }
 
-// Whether a request that reads looks at the peer's own values.
-fn reads_own(a: Ask) -> bool
-    ensures { λ r. ⌜ r ≡ readsOwn a ⌝ }
-{
-    match a {
-        Ask::FindInformation(_) => false,
-        Ask::ReadByType(_) => true,
-        Ask::ReadByGroupType(_) => true,
-        Ask::Read { handle: _ } => true,
-        Ask::ReadBlob {
-            handle: _,
-            offset: _,
-        } => true,
-        Ask::ReadMultiple => false,
-    }
-}
-
-// Whether one that writes does.
-fn writes_own(c: Change) -> bool
-    ensures { λ r. ⌜ r ≡ writesOwn c ⌝ }
-{
-    match c {
-        Change::Write { handle: _ } => true,
-        Change::WriteCommand { handle: _ } => true,
-        Change::PrepareWrite {
-            handle: _,
-            offset: _,
-        } => false,
-        Change::ExecuteWrite { flags: _ } => true,
-    }
-}
-
-// Whether a request needs the peer's slot. Where it does not, `answer` may be given none.
+// Whether a request looks at the peer's own values, and so needs its slot. Where it does not, `answer` may be given none.
 pub fn needs_slot(rq: Request) -> bool
     ensures { λ r. ⌜ r ≡ needsSlot rq ⌝ }
 {
     match rq {
-        Request::Ask(a) => reads_own(a),
+        Request::Ask(a) => match a {
+            Ask::FindInformation(_) => false,
+            Ask::ReadByType(_) => true,
+            Ask::ReadByGroupType(_) => true,
+            Ask::Read { handle: _ } => true,
+            Ask::ReadBlob {
+                handle: _,
+                offset: _,
+            } => true,
+            Ask::ReadMultiple => false,
+        },
         Request::FindByTypeValue { range: _, uuid: _ } => false,
-        Request::Change(c) => writes_own(c),
+        Request::Change(c) => match c {
+            Change::Write { handle: _ } => true,
+            Change::WriteCommand { handle: _ } => true,
+            Change::PrepareWrite {
+                handle: _,
+                offset: _,
+            } => false,
+            Change::ExecuteWrite { flags: _ } => true,
+        },
         Request::ExchangeMtu { mtu: _ } => false,
         Request::Confirmation => false,
     }
@@ -129,9 +119,9 @@ pub fn needs_slot(rq: Request) -> bool
 
 // Any request.
 pub fn answer(
-    list: &mut [[u8; 32]],
+    list: &mut [Record],
     store: &mut [u8],
-    tables: &mut [[u8; 640]],
+    tables: &mut [Table],
     slot: Found,
     link: Link,
     p: Prepared,
@@ -141,10 +131,10 @@ pub fn answer(
     out: &mut [u8],
 ) -> Changed
     requires { ⌜ Ready (now list) (length (now store)) (now tables) slot × (recordOk p ≡ true) ⌝ }
-    requires { ⌜ (length (now bytes) ≡ 512) × (6 ≤ length (now out)) × RequestFits rq (length (now d)) (length (now out)) ⌝ }
+    requires { ⌜ (length (now bytes) ≡ valueBytes) × (6 ≤ length (now out)) × RequestFits rq (length (now d)) (length (now out)) ⌝ }
     ensures { λ r. ⌜ (r .prepared ≡ recordBy p rq (length (now (d .entry))))
         × (now (bytes .exit) ≡ dataBy p (now (bytes .entry)) rq (now (d .entry)))
-        × Left (lentBy link (lent (now (list .entry)) (now (store .entry)) (now (tables .entry))) slot (pendingOf p (now (bytes .entry))) rq (now (d .entry))) (now (list .exit)) (now (store .exit)) (now (tables .exit))
+        × Becomes (λ s. stateBy link s slot (pendingOf p (now (bytes .entry))) rq (now (d .entry))) (now (list .entry)) (now (store .entry)) (now (tables .entry)) (now (list .exit)) (now (store .exit)) (now (tables .exit))
         × Answered (now (out .entry)) (now (out .exit)) (r .answer) (requestTold (viewOf link (now (list .entry)) (now (store .entry)) (tableAt (now (tables .entry)) slot) (pendingOf p (now (bytes .entry)))) (now (list .entry)) (now (store .entry)) (length (now (out .entry))) rq (now (d .entry))) ⌝ }
 {
     match rq {

@@ -1,112 +1,131 @@
 -- What is kept for a tablet stays the same in two hubs: a change of one slot asks for that slot alone; a table's call makes one list of one list; and a
 -- table that is nobody's, or cleared, is the list's fresh one. Assumes nothing.
 use mathlib.Core.Path.{_≡_, refl, sym, ap, _∙_}
-use mathlib.Core.Bool.{Bool, true, false, cond}
+use mathlib.Core.Bool.{Bool, true, false, not}
 use mathlib.Core.List.{List, []}
-use Prim.Native.Nat.{ℕ, _<_}
+use mathlib.Core.Logic.{⊎-elim}
+use Prim.Native.Nat.{ℕ, _≤_, _<_}
 use native.Mathlib.Omega.{arith}
 use lib.Dec.{eqb}
 use lib.ListN.{length, getD, set}
 use lib.Seq.{getD-set-same}
 use borrow.Author.Tests.{eqb-true, eqb-false}
-use Rattle.wire.specs.declared.Found.{Found}
-use Rattle.wire.specs.declared.Found.the-variants.{At, Nothing}
-use Rattle.wire.specs.Walk.{placeFrom}
-use Rattle.wire.proofs.Walk.{Placed, placed}
+use Rattle.wire.specs.declared.Found.the-variants.{At}
+use Rattle.wire.proofs.Walk.{placed}
 use Rattle.table_view.specs.View.{view}
 use Rattle.table_view.specs.Rules.{accepts}
 use Rattle.client_att_table.specs.AsList.{Call, bytesAfter, listAfter}
 use Rattle.client_att_table.proofs.AsList.{call-list}
-use Rattle.peers.specs.Identity.{sameId, isEmpty}
-use Rattle.peers.specs.Slots.{matches, slotOf, isUsable, isFree, choiceOf, byUsable, byFree, taken, left, rowBy, rowAfter, rowLeft, tablesAfter, tablesLeft, clearAt, noSlot, leftBy, clearedBy}
+use Rattle.peers.specs.Identity.{isEmpty}
+use Rattle.peers.specs.Slots.{matches, wanted, slotOf, taken, connecting, left, leaving, rowMoved, tablesMoved, noSlot}
 use Rattle.peers.specs.declared.Identity.{Identity}
 use Rattle.peers.specs.declared.Slot.{Slot}
-use Rattle.peers.proofs.Changes.{OnlyAt, slot-set, slot-cleared, table-set, new-slot, clear-table}
+use Rattle.peers.specs.declared.Move.{Move}
+use Rattle.peers.specs.declared.Want.the-variants.{Usable, Free}
+use Rattle.peers.proofs.Laws.{matches-same, usable-own-or-empty, walk-inside, slot-inside}
+use Rattle.peers.proofs.Moves.{by-joining, by-leaving}
+use Rattle.peers.proofs.Changes.{OnlyAt, moved-only, new-slot, row-stays, clear-table, kept-tables, table-set}
 use Rattle.peers.proofs.Identities.{same-is}
+use Rattle.state.specs.State.{State, state}
 use Rattle.state.specs.Fresh.{freshTable}
 use Rattle.state.specs.Valid.{valid}
-use Rattle.state.proofs.Keeping.{eight-tables, inside, nobodys-table, cleared-table}
+use Rattle.state.proofs.Keeping.{eight-tables, tables-read, inside, nobodys-table, cleared-table}
+use Rattle.secrecy.specs.Valid.{Sized}
 
 -- one list in both, in every slot of t's
 abbrev pub SameKept : Identity → List Slot → List (List ℕ) → List (List ℕ) → Type 0
 SameKept t row ts ts′ = (i : ℕ) → matches t (getD row i noSlot) ≡ true → view (getD ts i []) ≡ view (getD ts′ i [])
 
-module _ (t : Identity) where
-  slot-same : (i : ℕ) (row new : List Slot) (ts us ts′ us′ : List (List ℕ)) → OnlyAt i row new ts us → OnlyAt i row new ts′ us′ → SameKept t row ts ts′
-      → (matches t (getD new i noSlot) ≡ true → view (getD us i []) ≡ view (getD us′ i []))
-      → SameKept t new us us′
-  slot-same i row new ts us ts′ us′ o o′ k here j m = by (eqb j i) refl
-    where
-      by : (b : Bool) → eqb j i ≡ b → view (getD us j []) ≡ view (getD us′ j [])
-      by true e = rw (eqb-true j i e) (here (rw (eqb-true j i e) at m))
-      by false e =
-          let n = eqb-false j i e in
-          rw (o .table j n, o′ .table j n) (k j (rw (o .slot j n) at m))
+slot-same : (t : Identity) (i : ℕ) (row new : List Slot) (ts us ts′ us′ : List (List ℕ)) → OnlyAt i row new ts us → OnlyAt i row new ts′ us′ → SameKept t row ts ts′
+    → (matches t (getD new i noSlot) ≡ true → view (getD us i []) ≡ view (getD us′ i []))
+    → SameKept t new us us′
+slot-same t i row new ts us ts′ us′ o o′ k here j m = by (eqb j i) refl
+  where
+    by : (b : Bool) → eqb j i ≡ b → view (getD us j []) ≡ view (getD us′ j [])
+    by true e = rw (eqb-true j i e) (here (rw (eqb-true j i e) at m))
+    by false e =
+        let n = eqb-false j i e in
+        rw (o .table j n, o′ .table j n) (k j (rw (o .slot j n) at m))
+
+-- a state in which the calls are let in
+pub record Sound (s : State) : Type 0 where
+  pub right : valid s ≡ true
+  pub sized : Sized s
+
+module _ (s : State) (x : Sound s) where
+  -- the table of a slot: it is there, and can be read
+  there : (i : ℕ) → i < length (s .row) → i < length (s .tables)
+  there i l = omega (arith, inside s (x .right) (x .sized .tables) i l, eight-tables s (x .right))
+
+  read : (i : ℕ) → i < length (s .row) → accepts (getD (s .tables) i []) ≡ true
+  read i l = tables-read s (x .right) .read i (inside s (x .right) (x .sized .tables) i l)
+
+  -- one that is cleared is the list's fresh one
+  emptied : (m : Move) → m .clears ≡ true → m .place < length (s .row) → getD (tablesMoved (s .tables) m) (m .place) [] ≡ freshTable (s .list)
+  emptied m c l = clear-table (s .tables) m c (there (m .place) l) ∙ cleared-table s (x .right) (x .sized .tables) (m .place) l
+
+-- a state with the list and the row of another
+abbrev pub beside : State → List ℕ → List (List ℕ) → State
+beside a store ts = state (a .list) store (a .row) ts
+
+-- both keep the same for t
+module _ (t : Identity) (a : State) (store : List ℕ) (ts : List (List ℕ)) (x : Sound a) (y : Sound (beside a store ts)) (k : SameKept t (a .row) (a .tables) ts) where
+  abbrev b : State
+  b = beside a store ts
 
   -- a table's call, in one slot
-  pub call-same : (row : List Slot) (ts ts′ : List (List ℕ)) → SameKept t row ts ts′ → (i : ℕ) → i < length ts → i < length ts′ → accepts (getD ts i []) ≡ true → accepts (getD ts′ i []) ≡ true → (c : Call)
-      → SameKept t row (set ts i (bytesAfter (getD ts i []) c)) (set ts′ i (bytesAfter (getD ts′ i []) c))
-  call-same row ts ts′ k i l l′ ok ok′ c =
-      slot-same i row row ts _ ts′ _ (table-set i row noSlot ts _) (table-set i row noSlot ts′ _) k
+  pub call-same : (i : ℕ) → i < length (a .row) → (c : Call) → SameKept t (a .row) (set (a .tables) i (bytesAfter (getD (a .tables) i []) c)) (set ts i (bytesAfter (getD ts i []) c))
+  call-same i l c =
+      slot-same t i (a .row) (a .row) (a .tables) _ ts _ (table-set i (a .row) (a .tables) _) (table-set i (a .row) ts _) k
       (λ m.
-      rw (getD-set-same ts i (bytesAfter (getD ts i []) c) [] l, getD-set-same ts′ i (bytesAfter (getD ts′ i []) c) [] l′)
-      (call-list (getD ts i []) ok c ∙ ap (λ xs. listAfter xs c) (k i m) ∙ sym (call-list (getD ts′ i []) ok′ c)))
+      rw (getD-set-same (a .tables) i (bytesAfter (getD (a .tables) i []) c) [] (there a x i l), getD-set-same ts i (bytesAfter (getD ts i []) c) [] (there b y i l))
+      (call-list (getD (a .tables) i []) (read a x i l) c ∙ ap (λ xs. listAfter xs c) (k i m) ∙ sym (call-list (getD ts i []) (read b y i l) c)))
 
--- two valid states with one list and one row, that keep the same for t
-module _ (t : Identity) (list : List (List ℕ)) (store store′ : ℕ) (row : List Slot) (ts ts′ : List (List ℕ))
-    (v : valid list store row ts ≡ true) (v′ : valid list store′ row ts′ ≡ true)
-    (sized : (i : ℕ) → i < 8 → length (getD ts i []) ≡ 640) (sized′ : (i : ℕ) → i < 8 → length (getD ts′ i []) ≡ 640) (k : SameKept t row ts ts′) where
-  -- a slot and a cleared table: the list's fresh one, in both
-  emptied : (list : List (List ℕ)) (store : ℕ) (ts : List (List ℕ)) (v : valid list store row ts ≡ true) → ((i : ℕ) → i < 8 → length (getD ts i []) ≡ 640) → (i : ℕ) → i < length row → getD (clearAt ts i) i [] ≡ freshTable list
-  emptied list store ts v sized i l =
-      clear-table i row noSlot ts (omega (arith, inside list store row ts v sized i l, eight-tables list store row ts v))
-      ∙ cleared-table list store row ts v sized i l
+  -- a move: one that clears, one that leaves the tables, and one past the end of the row
+  unfoldable pub MoveSame : Move → Type 0
+  MoveSame m = SameKept t (rowMoved (a .row) m) (tablesMoved (a .tables) m) (tablesMoved ts m)
 
-  emptied-same : (i : ℕ) → i < length row → (s : Slot) → SameKept t (set row i s) (clearAt ts i) (clearAt ts′ i)
-  emptied-same i l s =
-      slot-same t i row (set row i s) ts _ ts′ _ (slot-cleared i row s ts) (slot-cleared i row s ts′) k
-      (λ m. ap view (emptied list store ts v sized i l ∙ sym (emptied list store′ ts′ v′ sized′ i l)))
+  move-same : (m : Move) → (matches t (getD (rowMoved (a .row) m) (m .place) noSlot) ≡ true → view (getD (tablesMoved (a .tables) m) (m .place) []) ≡ view (getD (tablesMoved ts m) (m .place) [])) → MoveSame m
+  unfolding MoveSame
+  move-same m here =
+      slot-same t (m .place) (a .row) _ (a .tables) _ ts _ (moved-only (a .row) (a .tables) m) (moved-only (a .row) ts m) k here
 
-  -- a slot that is usable, and its new owner
-  usable-same : (i : ℕ) → i < length row → (who : Identity) → isUsable who (getD row i noSlot) ≡ true → sameId who t ≡ true → view (getD ts i []) ≡ view (getD ts′ i [])
-  unfolding isUsable
-  usable-same i l who u e = by (matches who (getD row i noSlot)) refl u
-    where
-      by : (b : Bool) → matches who (getD row i noSlot) ≡ b → cond b true (isEmpty (getD row i noSlot .id)) ≡ true → view (getD ts i []) ≡ view (getD ts′ i [])
-      by true m h = k i (rw (same-is who t e) at m)
-      by false m h = ap view (nobodys-table list store row ts v sized i l h ∙ sym (nobodys-table list store′ row ts′ v′ sized′ i l h))
+  emptied-same : (m : Move) → m .clears ≡ true → m .place < length (a .row) → MoveSame m
+  emptied-same m c l = move-same m (λ o. ap view (emptied a x m c l ∙ sym (emptied b y m c l)))
 
-  taken-same : (who : Identity) (i : ℕ) → i < length row → isUsable who (getD row i noSlot) ≡ true → SameKept t (set row i (taken who)) ts ts′
-  taken-same who i l u =
-      slot-same t i row (set row i (taken who)) ts ts ts′ ts′ (slot-set i row (taken who) ts) (slot-set i row (taken who) ts′) k
-      (λ m. usable-same i l who u (rw (new-slot i row (taken who) ts l) at m))
+  owned-same : (m : Move) → m .clears ≡ false → m .place < length (a .row) → (matches t (m .slot) ≡ true → view (getD (a .tables) (m .place) []) ≡ view (getD ts (m .place) [])) → MoveSame m
+  owned-same m c l e =
+      move-same m (λ o. rw (kept-tables (a .tables) m c, kept-tables ts m c) (e (rw (new-slot (a .row) m l) at o)))
 
-  -- connecting
-  free-same : (who : Identity) (f : Found) → ((i : ℕ) → f ≡ At i → i < length row) → SameKept t (rowBy row who (byFree f)) (tablesAfter ts (byFree f)) (tablesAfter ts′ (byFree f))
-  free-same who Nothing h = k
-  free-same who (At i) h = emptied-same i (h i refl) (taken who)
+  stay-same : (m : Move) → m .clears ≡ false → length (a .row) ≤ m .place → MoveSame m
+  unfolding MoveSame
+  stay-same m c h = rw (row-stays (a .row) m h, kept-tables (a .tables) m c, kept-tables ts m c) k
 
-  chosen-same : (who : Identity) (u f : Found) → ((i : ℕ) → u ≡ At i → Placed (isUsable who) noSlot row 0 i) → ((i : ℕ) → f ≡ At i → i < length row)
-      → SameKept t (rowBy row who (byUsable u f)) (tablesAfter ts (byUsable u f)) (tablesAfter ts′ (byUsable u f))
-  chosen-same who Nothing f p h = free-same who f h
-  chosen-same who (At i) f p h = taken-same who i (p i refl .inside) (p i refl .passes)
+  -- connecting: a slot that is usable, and its new owner
+  usable-same : (who : Identity) (i : ℕ) → i < length (a .row) → wanted Usable who (getD (a .row) i noSlot) ≡ true → matches t (taken who) ≡ true → view (getD (a .tables) i []) ≡ view (getD ts i [])
+  usable-same who i l u e =
+      ⊎-elim
+      (λ (m : matches who (getD (a .row) i noSlot) ≡ true). k i (rw (same-is who t (sym (matches-same t (taken who)) ∙ e)) at m))
+      (λ (h : isEmpty (getD (a .row) i noSlot .id) ≡ true).
+      ap view (nobodys-table a (x .right) (x .sized .tables) i l h ∙ sym (nobodys-table b (y .right) (y .sized .tables) i l h)))
+      (usable-own-or-empty who (getD (a .row) i noSlot) u)
 
-  pub connect-same : (who : Identity) → SameKept t (rowAfter row who) (tablesAfter ts (choiceOf row who)) (tablesAfter ts′ (choiceOf row who))
-  unfolding choiceOf
+  pub connect-same : (who : Identity) → MoveSame (connecting (a .row) who)
   connect-same who =
-      chosen-same who (placeFrom (isUsable who) row 0) (placeFrom isFree row 0) (placed (isUsable who) noSlot row 0) (λ i e. placed isFree noSlot row 0 i e .inside)
+      by-joining (a .row) who MoveSame
+      (λ i e.
+      let w = placed (wanted Usable who) noSlot (a .row) 0 i e in
+      owned-same _ refl (w .inside) (usable-same who i (w .inside) (w .passes)))
+      (λ i u e. emptied-same _ refl (walk-inside (a .row) who Free i e))
+      (stay-same _ refl (omega arith))
 
   -- leaving
-  left-same : (bonded : Bool) (i : ℕ) → i < length row → SameKept t (set row i (left bonded (getD row i noSlot))) (cond bonded ts (clearAt ts i)) (cond bonded ts′ (clearAt ts′ i))
+  left-same : (who : Identity) (bonded : Bool) (i : ℕ) → slotOf (a .row) who ≡ At i → MoveSame (record { place = i; slot = left bonded (getD (a .row) i noSlot); clears = not bonded; full = false })
   unfolding left
-  left-same true i l =
-      let s : Slot = record { id = getD row i noSlot .id; connected = 0 } in
-      slot-same t i row (set row i s) ts ts ts′ ts′ (slot-set i row s ts) (slot-set i row s ts′) k (λ m. k i (rw (new-slot i row s ts l) at m))
-  left-same false i l = emptied-same i l _
+  left-same who true i e =
+      let s = getD (a .row) i noSlot in
+      owned-same _ refl (slot-inside (a .row) who i e) (λ o. k i (matches-same t s ∙ sym (matches-same t (record { id = s .id; connected = 0 })) ∙ o))
+  left-same who false i e = emptied-same _ refl (slot-inside (a .row) who i e)
 
-  parted-same : (bonded : Bool) (f : Found) → ((i : ℕ) → f ≡ At i → i < length row) → SameKept t (leftBy row bonded f) (clearedBy ts bonded f) (clearedBy ts′ bonded f)
-  parted-same bonded Nothing h = k
-  parted-same bonded (At i) h = left-same bonded i (h i refl)
-
-  pub disconnect-same : (who : Identity) (bonded : Bool) → SameKept t (rowLeft row who bonded) (tablesLeft ts row who bonded) (tablesLeft ts′ row who bonded)
-  disconnect-same who bonded = parted-same bonded (slotOf row who) (λ i e. placed (matches who) noSlot row 0 i e .inside)
+  pub disconnect-same : (who : Identity) (bonded : Bool) → MoveSame (leaving (a .row) who bonded)
+  disconnect-same who bonded = by-leaving (a .row) who bonded MoveSame (left-same who bonded) (stay-same _ refl (omega arith))

@@ -1,4 +1,5 @@
 pub mod Promised
+pub mod Own
 pub mod Sizes
 pub mod Valid
 pub mod Apart

@@ -1,94 +1,84 @@
 -- The steps are the promises': whatever meets the contract of a call tells what `told` tells, and leaves the hub that `step` leaves. Each law takes the
--- proposition of the call's contract as it stands there; calls that change nothing are one step of nothing. Assumes nothing.
-use mathlib.Core.Path.{_≡_, subst}
+-- proposition of the call's contract as it stands there; calls that only look are one step of nothing. Assumes nothing.
+use mathlib.Core.Path.{_≡_, ap, subst}
 use mathlib.Core.Bool.{Bool}
 use mathlib.Core.List.{List, []}
 use Prim.Native.Nat.{ℕ}
 use lib.ListN.{length}
+use Rattle.table_view.specs.Told.{Told}
 use Rattle.attribute.specs.declared.Link.{Link}
+use Rattle.attribute.specs.declared.Wish.{Wish}
 use Rattle.peers.specs.declared.Identity.{Identity}
+use Rattle.state.specs.State.{State}
 use Rattle.model.specs.Told.{toldAnswer, Answered}
-use Rattle.model.specs.Change.{lent, Left}
 use Rattle.model.specs.declared.Answer.{Answer}
-use Rattle.attribute_server.specs.Connection.{connectTold, connectRow, connectTables, disconnectTold, disconnectRow, disconnectTables}
-use Rattle.attribute_server.specs.Request.{processTold, processLent, processRecord, processBytes}
-use Rattle.attribute_server.specs.Value.{getTold, setTold, setLent, canReadTold, canWriteTold}
+use Rattle.attribute_server.specs.Connection.{connectTold, connectLeft, disconnectTold, disconnectLeft}
+use Rattle.attribute_server.specs.Request.{processTold, processLeft, processWaits}
+use Rattle.attribute_server.specs.Value.{getTold, setTold, setLeft, canTold}
 use Rattle.attribute_server.specs.Subscription.{subscribedTold}
-use Rattle.attribute_server.specs.Table.{fetchedTold, restoredTold, restoredTables}
-use Rattle.attribute_server.specs.declared.connection.Joining.{Joining}
-use Rattle.secrecy.specs.Hub.{Hub, Asked, Deed, Process, Connect, Disconnect, Get, Set, CanRead, CanWrite, ShouldNotify, ShouldIndicate, GetTable, SetTable, meeting, toldBy, withLent, withRow, withWaiting, stepBy}
+use Rattle.attribute_server.specs.Table.{fetchedTold, restoredTold, restoredLeft}
+use Rattle.secrecy.specs.Hub.{Hub, Asked, Deed, Process, Connect, Disconnect, Set, SetTable, Looks, Get, Can, ShouldNotify, ShouldIndicate, GetTable, queryOf, toldBy, lookTold, withState, withWaiting, stepBy}
 use Rattle.secrecy.specs.Secret.{Outcome, Keeps}
 
-module _ (s : Hub) (who : Identity) where
-  -- an answer without a buffer
-  abbrev Tells : Answer → Deed → Type 0
-  Tells r d = toldAnswer [] r ≡ toldBy s who d
+module _ (x : Hub) (who : Identity) where
+  -- an answer without a buffer, one with a buffer, and an answer with the state that is left
+  abbrev pub Tells : Told → Deed → Type 0
+  Tells t d = (r : Answer) → toldAnswer [] r ≡ t → toldAnswer [] r ≡ toldBy x who d
 
-  pub connect-is : (r : Joining) (ts : List (List ℕ))
-      → (toldAnswer [] (r .answer) ≡ connectTold (s .list) (length (s .store)) (s .row) (s .tables) who)
-      × (r .row ≡ connectRow (s .list) (length (s .store)) (s .row) (s .tables) who)
-      × (ts ≡ connectTables (s .list) (length (s .store)) (s .row) (s .tables) who)
-      → Tells (r .answer) Connect × (withRow s (r .row) ts ≡ stepBy s who Connect)
-  unfolding toldBy stepBy
-  connect-is r ts p = (p .0, λ i. withRow s (p .1 i) (p .2 i))
+  abbrev pub Fills : List ℕ → Told → Deed → Type 0
+  Fills out t d = (new : List ℕ) (r : Answer) → Answered out new r t → Answered out new r (toldBy x who d)
 
-  pub disconnect-is : (bonded : Bool) (r : Joining) (ts : List (List ℕ))
-      → (toldAnswer [] (r .answer) ≡ disconnectTold (s .list) (length (s .store)) (s .row) (s .tables) who)
-      × (r .row ≡ disconnectRow (s .list) (length (s .store)) (s .row) (s .tables) who bonded)
-      × (ts ≡ disconnectTables (s .list) (length (s .store)) (s .row) (s .tables) who bonded)
-      → Tells (r .answer) (Disconnect bonded) × (withRow s (r .row) ts ≡ stepBy s who (Disconnect bonded))
-  unfolding toldBy stepBy
-  disconnect-is bonded r ts p = (p .0, λ i. withRow s (p .1 i) (p .2 i))
+  abbrev pub Leaves : Told → State → Deed → Type 0
+  Leaves t left d = (r : Answer) (s : State) → (toldAnswer [] r ≡ t) × (s ≡ left) → (toldAnswer [] r ≡ toldBy x who d) × (withState x s ≡ stepBy x who d)
 
-  pub set-is : (h : ℕ) (d : List ℕ) (r : Answer) (list : List (List ℕ)) (store : List ℕ) (ts : List (List ℕ))
-      → (toldAnswer [] r ≡ setTold (s .list) (s .store) (s .row) (s .tables) who h (length d))
-      × Left (setLent (s .list) (s .store) (s .row) (s .tables) who h d) list store ts
-      → Tells r (Set h d) × (withLent s (lent list store ts) ≡ stepBy s who (Set h d))
+  pub connect-is : Leaves (connectTold (x .state) who) (connectLeft (x .state) who) Connect
   unfolding toldBy stepBy
-  set-is h d r list store ts p = (p .0, λ i. withLent s (lent (p .1 .list-is i) (p .1 .store-is i) (p .1 .tables-are i)))
+  connect-is r s p = (p .0, ap (withState x) (p .1))
 
-  pub set-table-is : (saved : List ℕ) (r : Answer) (ts : List (List ℕ))
-      → (toldAnswer [] r ≡ restoredTold (s .list) (length (s .store)) (s .row) (s .tables) who saved)
-      × (ts ≡ restoredTables (s .list) (length (s .store)) (s .row) (s .tables) who saved)
-      → Tells r (SetTable saved) × (withRow s (s .row) ts ≡ stepBy s who (SetTable saved))
+  pub disconnect-is : (bonded : Bool) → Leaves (disconnectTold (x .state) who bonded) (disconnectLeft (x .state) who bonded) (Disconnect bonded)
   unfolding toldBy stepBy
-  set-table-is saved r ts p = (p .0, λ i. withRow s (s .row) (p .1 i))
+  disconnect-is bonded r s p = (p .0, ap (withState x) (p .1))
+
+  pub set-is : (h : ℕ) (d : List ℕ) → Leaves (setTold (x .state) who h (length d)) (setLeft (x .state) who h d) (Set h d)
+  unfolding toldBy stepBy
+  set-is h d r s p = (p .0, ap (withState x) (p .1))
+
+  pub set-table-is : (saved : List ℕ) → Leaves (restoredTold (x .state) who saved) (restoredLeft (x .state) who saved) (SetTable saved)
+  unfolding toldBy stepBy
+  set-table-is saved r s p = (p .0, ap (withState x) (p .1))
 
   -- a request, into a buffer of the length that it says
-  pub process-is : (q : Asked) (out : List ℕ) → length out ≡ q .room → (r : Outcome) → Keeps s who q out r
-      → Answered out (r .out) (r .changed .answer) (toldBy s who (Process q))
-      × (withWaiting (withLent s (lent (r .list) (r .store) (r .tables))) (q .link) (record { prepared = r .changed .prepared; bytes = r .bytes }) ≡ stepBy s who (Process q))
+  pub process-is : (q : Asked) (out : List ℕ) → length out ≡ q .room → (r : Outcome) → Keeps x who q out r
+      → Answered out (r .out) (r .answer) (toldBy x who (Process q)) × (withWaiting (withState x (r .state)) (q .link) (r .waiting) ≡ stepBy x who (Process q))
   unfolding toldBy stepBy
   process-is q out n r p =
+      let s = x .state in
+      let w = x .waiting (q .link) in
+      let k = queryOf who q in
       subst
       (λ (room : ℕ).
-      Answered out (r .out) (r .changed .answer) (processTold (meeting s who q) room)
-      × (withWaiting (withLent s (lent (r .list) (r .store) (r .tables))) (q .link) (record { prepared = r .changed .prepared; bytes = r .bytes })
-      ≡ withWaiting (withLent s (processLent (meeting s who q) room)) (q .link) (record { prepared = processRecord (meeting s who q) room; bytes = processBytes (meeting s who q) room })))
+      Answered out (r .out) (r .answer) (processTold s w k room)
+      × (withWaiting (withState x (r .state)) (q .link) (r .waiting) ≡ withWaiting (withState x (processLeft s w k room)) (q .link) (processWaits s w k room)))
       n
-      (p .answer, λ i. withWaiting (withLent s (lent (p .left .list-is i) (p .left .store-is i) (p .left .tables-are i))) (q .link) (record { prepared = p .record-is i; bytes = p .bytes-are i }))
+      (p .answer, λ i. withWaiting (withState x (p .left i)) (q .link) (p .waits i))
 
-  -- those that change nothing
-  pub get-is : (h : ℕ) (out new : List ℕ) (r : Answer) → Answered out new r (getTold (s .list) (s .store) (s .row) (s .tables) who h (length out)) → Answered out new r (toldBy s who (Get h (length out)))
-  unfolding toldBy
+  -- those that only look
+  pub get-is : (h : ℕ) (out : List ℕ) → Fills out (getTold (x .state) who h (length out)) (Looks (Get h (length out)))
+  unfolding toldBy lookTold
   get-is h out new r p = p
 
-  pub get-table-is : (out new : List ℕ) (r : Answer) → Answered out new r (fetchedTold (s .list) (length (s .store)) (s .row) (s .tables) who) → Answered out new r (toldBy s who GetTable)
-  unfolding toldBy
+  pub get-table-is : (out : List ℕ) → Fills out (fetchedTold (x .state) who) (Looks GetTable)
+  unfolding toldBy lookTold
   get-table-is out new r p = p
 
-  pub can-read-is : (link : Link) (h : ℕ) (r : Answer) → toldAnswer [] r ≡ canReadTold (s .list) (length (s .store)) (s .row) (s .tables) who link h → Tells r (CanRead link h)
-  unfolding toldBy
-  can-read-is link h r p = p
+  pub can-is : (wish : Wish) (link : Link) (h : ℕ) → Tells (canTold (x .state) who wish link h) (Looks (Can wish link h))
+  unfolding toldBy lookTold
+  can-is wish link h r p = p
 
-  pub can-write-is : (link : Link) (h : ℕ) (r : Answer) → toldAnswer [] r ≡ canWriteTold (s .list) (length (s .store)) (s .row) (s .tables) who link h → Tells r (CanWrite link h)
-  unfolding toldBy
-  can-write-is link h r p = p
-
-  pub notify-is : (h : ℕ) (r : Answer) → toldAnswer [] r ≡ subscribedTold (s .list) (length (s .store)) (s .row) (s .tables) who h 1 → Tells r (ShouldNotify h)
-  unfolding toldBy
+  pub notify-is : (h : ℕ) → Tells (subscribedTold (x .state) who h 1) (Looks (ShouldNotify h))
+  unfolding toldBy lookTold
   notify-is h r p = p
 
-  pub indicate-is : (h : ℕ) (r : Answer) → toldAnswer [] r ≡ subscribedTold (s .list) (length (s .store)) (s .row) (s .tables) who h 2 → Tells r (ShouldIndicate h)
-  unfolding toldBy
+  pub indicate-is : (h : ℕ) → Tells (subscribedTold (x .state) who h 2) (Looks (ShouldIndicate h))
+  unfolding toldBy lookTold
   indicate-is h r p = p

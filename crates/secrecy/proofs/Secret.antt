@@ -8,16 +8,15 @@ use lib.ListN.{length, getD}
 use Rattle.wire.specs.declared.Found.{Found}
 use Rattle.wire.specs.declared.Found.the-variants.{At, Nothing}
 use Rattle.wire.proofs.Tests.{both-l, both-r, both-true}
-use Rattle.wire.proofs.Walk.{placed}
 use Rattle.table_view.specs.Told.{Told}
 use Rattle.table_view.specs.View.{view}
-use Rattle.attribute.specs.Record.{attributeOf}
 use Rattle.attribute.specs.Needs.{accessOf}
 use Rattle.attribute.specs.declared.Access.{Access}
 use Rattle.attribute.specs.declared.Access.the-variants.{Granted, Denied}
 use Rattle.peers.specs.Identity.{sameId}
-use Rattle.peers.specs.Slots.{matches, slotOf, noSlot}
+use Rattle.peers.specs.Slots.{slotOf}
 use Rattle.peers.specs.declared.Identity.{Identity}
+use Rattle.state.specs.State.{State}
 use Rattle.state.proofs.Keeping.{right-list}
 use Rattle.model.specs.View.{View, ownTable, tableAt, seenAll}
 use Rattle.model.specs.Answer.{requestTold}
@@ -27,12 +26,13 @@ use Rattle.model.specs.declared.Request.the-variants as request
 use Rattle.model.proofs.Hidden.{Alike, all-seen-same}
 use Rattle.attribute_server.specs.Admission.{toldIf}
 use Rattle.attribute_server.specs.Request.{seenOf}
-use Rattle.secrecy.specs.Hub.{Hub, Asked, Deed, Process, Connect, Disconnect, Get, Set, CanRead, CanWrite, ShouldNotify, ShouldIndicate, GetTable, SetTable, Call, meeting, toldBy, told, step}
+use Rattle.secrecy.specs.Hub.{Hub, Asked, Deed, Process, Connect, Disconnect, Set, SetTable, Looks, Call, queryOf, toldBy, told, step}
 use Rattle.secrecy.specs.Valid.{Valid}
-use Rattle.secrecy.specs.Secret.{isCompared, isRequest, asks, heard, isGranted, reaches, everReaches, Agree, Secrecy, requestOf, SecretAnswers}
+use Rattle.secrecy.specs.Secret.{isCompared, isRequest, asks, heard, isGranted, reaches, everReaches, attributeAt, Agree, Secrecy, requestOf, SecretAnswers}
 use Rattle.peers.proofs.Identities.{same-is, same-self}
 use Rattle.storing.proofs.Writing.{item-length}
 use Rattle.model.proofs.Telling.{one-answered}
+use Rattle.secrecy.proofs.Own.{found-own}
 use Rattle.secrecy.proofs.Valid.{step-valid, all-valid}
 use Rattle.secrecy.proofs.Promised.{process-is}
 use Rattle.secrecy.proofs.Agree.{let-in-same, step-agrees}
@@ -48,30 +48,39 @@ by-view v list list′ store store′ room request.Confirmation d e = refl
 
 -- t's request, on two hubs that agree: one view, one answer
 module _ (t : Identity) (may : ℕ → Bool) (a b : Hub) (x : Valid a) (y : Valid b) (g : Agree t may a b) where
-  own-same : view (ownTable (a .row) (a .tables) t) ≡ view (ownTable (b .row) (b .tables) t)
+  abbrev s : State
+  s = a .state
+
+  abbrev z : State
+  z = b .state
+
+  own-same : view (ownTable (s .row) (s .tables) t) ≡ view (ownTable (z .row) (z .tables) t)
   unfolding tableAt
-  own-same = rw (← g .row) (by (slotOf (a .row) t) refl)
+  own-same = rw (← g .state .row) (by (slotOf (s .row) t) refl)
     where
-      by : (f : Found) → slotOf (a .row) t ≡ f → view (tableAt (a .tables) f) ≡ view (tableAt (b .tables) f)
+      by : (f : Found) → slotOf (s .row) t ≡ f → view (tableAt (s .tables) f) ≡ view (tableAt (z .tables) f)
       by Nothing e = refl
-      by (At k) e = g .kept k (placed (matches t) noSlot (a .row) 0 k e .passes)
+      by (At k) e = g .state .kept k (found-own (s .row) t k e)
 
   module _ (q : Asked) (reach : (need : ℕ) → accessOf (q .level) 0x02 need ≡ Granted → may need ≡ true) where
-    alike : (i : ℕ) → i < length (a .list) → Alike (q .level) (getD (a .list) i []) (a .store) (b .store) (ownTable (a .row) (a .tables) t) (ownTable (b .row) (b .tables) t) own-same
+    alike : (i : ℕ) → i < length (s .list) → Alike (q .level) (getD (s .list) i []) (s .store) (z .store) (ownTable (s .row) (s .tables) t) (ownTable (z .row) (z .tables) t) own-same
     alike i l =
         record {
-          value = λ m c. g .shared i l c (reach (attributeOf (getD (a .list) i []) .reads) m);
+          value = λ m c. g .state .shared i l c (reach (attributeAt s i .reads) m);
           size =
               λ c.
-              item-length (a .list) (a .store) (right-list _ _ _ _ (x .state)) i l c
-              ∙ sym (rw (g .list) (item-length (b .list) (b .store) (right-list _ _ _ _ (y .state)) i (rw (← g .list) l) (rw (← g .list) c)));
+              item-length (s .list) (s .store) (right-list s (x .state)) i l c
+              ∙ sym (rw (g .state .list) (item-length (z .list) (z .store) (right-list z (y .state)) i (rw (← g .state .list) l) (rw (← g .state .list) c)));
         }
 
-    seen-same : seenOf (meeting a t q) ≡ seenOf (meeting b t q)
+    abbrev seen : Hub → View
+    seen h = seenOf (h .state) (h .waiting (q .link)) (queryOf t q)
+
+    seen-same : seen a ≡ seen b
     seen-same =
         λ i.
         record {
-          attrs = (all-seen-same (q .level) (a .list) (a .store) (b .store) _ _ own-same alike ∙ ap (λ (list : List (List ℕ)). seenAll (q .level) list (b .store) (ownTable (b .row) (b .tables) t)) (g .list)) i;
+          attrs = (all-seen-same (q .level) (s .list) (s .store) (z .store) _ _ own-same alike ∙ ap (λ (list : List (List ℕ)). seenAll (q .level) list (z .store) (ownTable (z .row) (z .tables) t)) (g .state .list)) i;
           pending = g .waiting (q .link) .pending i;
         }
 
@@ -79,8 +88,8 @@ module _ (t : Identity) (may : ℕ → Bool) (a b : Hub) (x : Valid a) (y : Vali
     unfolding toldBy
     answer-same e =
         ap₂ toldIf (let-in-same a b x y t q)
-        (by-view (seenOf (meeting a t q)) (a .list) (b .list) (a .store) (b .store) (q .room) (q .request) (q .brings) e
-        ∙ ap (λ (v : View). requestTold v (b .list) (b .store) (q .room) (q .request) (q .brings)) seen-same)
+        (by-view (seen a) (s .list) (z .list) (s .store) (z .store) (q .room) (q .request) (q .brings) e
+        ∙ ap (λ (v : View). requestTold v (z .list) (z .store) (q .room) (q .request) (q .brings)) seen-same)
 
 -- a request is one of t's
 granted : (r : Access) → r ≡ Granted → isGranted r ≡ true
@@ -93,19 +102,18 @@ unfolding isRequest
 told-same t may a b x y g (Process q) reach e = answer-same t may a b x y g q (λ need r. reach need (granted _ r)) e
 told-same t may a b x y g Connect reach e = cc
 told-same t may a b x y g (Disconnect bonded) reach e = cc
-told-same t may a b x y g (Get h room) reach e = cc
 told-same t may a b x y g (Set h d) reach e = cc
-told-same t may a b x y g (CanRead link h) reach e = cc
-told-same t may a b x y g (CanWrite link h) reach e = cc
-told-same t may a b x y g (ShouldNotify h) reach e = cc
-told-same t may a b x y g (ShouldIndicate h) reach e = cc
-told-same t may a b x y g GetTable reach e = cc
 told-same t may a b x y g (SetTable saved) reach e = cc
+told-same t may a b x y g (Looks l) reach e = cc
 
 -- agreement on fewer values
 fewer : (t : Identity) (may less : ℕ → Bool) (a b : Hub) → ((need : ℕ) → less need ≡ true → may need ≡ true) → Agree t may a b → Agree t less a b
 fewer t may less a b w g =
-    record { list = g .list; row = g .row; waiting = g .waiting; shared = λ i l c m. g .shared i l c (w _ m); kept = g .kept }
+    let k = g .state in
+    record {
+      state = record { list = k .list; row = k .row; shared = λ i l c m. k .shared i l c (w _ m); kept = k .kept };
+      waiting = g .waiting;
+    }
 
 -- what a link meets in a call is met among the calls
 now-or-later : (u v : Bool) → v ≡ true → cond u true v ≡ true
@@ -156,5 +164,5 @@ secret-answers t calls q a b x y g e out n r r′ p p′ =
     let a₁ = afterAll step a calls in
     let b₁ = afterAll step b calls in
     let one : told a₁ c ≡ told b₁ c = told-now t c [] a₁ b₁ (all-valid a x calls) (all-valid b y calls) (after-all t calls (c ∷ []) a b x y g) (both-true _ _ (same-self t) e) in
-    let same = one-answered out (r .out) (r′ .out) (r .changed .answer) (r′ .changed .answer) (told b₁ c) (subst (Answered out (r .out) (r .changed .answer)) one (process-is a₁ t q out n r p .0)) (process-is b₁ t q out n r′ p′ .0) in
+    let same = one-answered out (r .out) (r′ .out) (r .answer) (r′ .answer) (told b₁ c) (subst (Answered out (r .out) (r .answer)) one (process-is a₁ t q out n r p .0)) (process-is b₁ t q out n r′ p′ .0) in
     (same .answer, same .out)

@@ -5,8 +5,10 @@ use Prim.Native.Nat.{ℕ, _+_, _≤_}
 use native.Mathlib.Omega.{arith}
 use lib.ListN.{length, take, drop, length-append}
 use lib.Seq.{sets, sets-eq, length-take-le, take-append-seam}
+use Rattle.wire.specs.Size.{valueBytes}
 use Rattle.attribute.specs.declared.Access.{Access}
 use Rattle.attribute.specs.declared.Access.the-variants.{Granted, Denied}
+use Rattle.state.specs.State.{State, Waiting, waiting}
 use Rattle.state.specs.declared.Prepared.{Prepared}
 use Rattle.model.specs.View.{Pending}
 use Rattle.model.specs.Change.{ifGranted, longer, mayPrepare, recordAfter, dataAfter, recordBy, dataBy}
@@ -15,7 +17,7 @@ use Rattle.model.specs.declared.Request.the-variants as request
 use Rattle.model.specs.declared.Change.{Change}
 use Rattle.model.specs.declared.Change.the-variants.{Write, WriteCommand, PrepareWrite, ExecuteWrite}
 use Rattle.writing.proofs.Preparing.{granted-fits}
-use Rattle.secrecy.specs.Hub.{Waiting}
+use Rattle.attribute_server.specs.Request.{Query, waitingBy}
 use Rattle.secrecy.specs.Secret.{SameWaiting}
 
 -- the first m bytes, with d appended
@@ -27,7 +29,7 @@ appended m d l h =
     ∙ take-append-seam (take m l ++ d) (drop (m + length d) l)
 
 -- one prepared write, with other bytes past its length
-module _ (p : Prepared) (u v : List ℕ) (lu : length u ≡ 512) (lv : length v ≡ 512) (same : take (p .len) u ≡ take (p .len) v) where
+module _ (p : Prepared) (u v : List ℕ) (lu : length u ≡ valueBytes) (lv : length v ≡ valueBytes) (same : take (p .len) u ≡ take (p .len) v) where
   prepared-same : (h off : ℕ) (d : List ℕ) (r : Access) → mayPrepare p h off (length d) ≡ r
       → take (ifGranted r (longer p h off (length d)) p .len) (ifGranted r (sets u (p .len) d) u) ≡ take (ifGranted r (longer p h off (length d)) p .len) (ifGranted r (sets v (p .len) d) v)
   unfolding longer
@@ -52,12 +54,11 @@ module _ (p : Prepared) (u v : List ℕ) (lu : length u ≡ 512) (lv : length v 
   bytes-same request.Confirmation d = same
 
 -- what waits after a request
-abbrev pub waitsBy : Waiting → Request → List ℕ → Waiting
-waitsBy w rq d = record { prepared = recordBy (w .prepared) rq (length d); bytes = dataBy (w .prepared) (w .bytes) rq d }
-
-pub waits-same : (x y : Waiting) → length (x .bytes) ≡ 512 → length (y .bytes) ≡ 512 → SameWaiting x y → (rq : Request) (d : List ℕ) → SameWaiting (waitsBy x rq d) (waitsBy y rq d)
-waits-same x y lx ly k rq d =
-    subst (λ (p : Prepared). take (x .prepared .len) (x .bytes) ≡ take (p .len) (y .bytes) → SameWaiting (waitsBy x rq d) (record { prepared = recordBy p rq (length d); bytes = dataBy p (y .bytes) rq d }))
+pub waits-same : (a b : State) (x y : Waiting) → length (x .bytes) ≡ valueBytes → length (y .bytes) ≡ valueBytes → SameWaiting x y → (q : Query) (room : ℕ) → SameWaiting (waitingBy a x q room) (waitingBy b y q room)
+waits-same a b x y lx ly k q room =
+    let rq = q .request in
+    let d = q .brings in
+    subst (λ (p : Prepared). take (x .prepared .len) (x .bytes) ≡ take (p .len) (y .bytes) → SameWaiting (waitingBy a x q room) (waiting (recordBy p rq (length d)) (dataBy p (y .bytes) rq d)))
     (k .prepared)
     (λ e.
     record {

@@ -1,4 +1,4 @@
--- A hub in bytes, the calls that can be made on it, what each tells and what it leaves: the definitions that the contracts of the server's
+-- A hub, the calls that can be made on it, what each tells and what it leaves: the definitions that the contracts of the server's
 -- calls cite, and no others. Assumes nothing.
 use Prim.Native.Nat.{ℕ}
 use mathlib.Core.Bool.{Bool, cond}
@@ -7,28 +7,19 @@ use lib.Dec.{eqb}
 use lib.ListN.{length}
 use Rattle.table_view.specs.Told.{Told}
 use Rattle.attribute.specs.declared.Link.{Link}
+use Rattle.attribute.specs.declared.Wish.{Wish}
 use Rattle.peers.specs.declared.Identity.{Identity}
-use Rattle.peers.specs.declared.Slot.{Slot}
-use Rattle.state.specs.declared.Prepared.{Prepared}
-use Rattle.model.specs.Change.{Lent}
+use Rattle.state.specs.State.{State, Waiting}
 use Rattle.model.specs.declared.Request.{Request}
-use Rattle.attribute_server.specs.Request.{Call as Meeting, call, processTold, processLent, processRecord, processBytes}
-use Rattle.attribute_server.specs.Connection.{connectTold, connectRow, connectTables, disconnectTold, disconnectRow, disconnectTables}
-use Rattle.attribute_server.specs.Value.{getTold, setTold, setLent, canReadTold, canWriteTold}
+use Rattle.attribute_server.specs.Request.{Query, query, processTold, processLeft, processWaits}
+use Rattle.attribute_server.specs.Connection.{connectTold, connectLeft, disconnectTold, disconnectLeft}
+use Rattle.attribute_server.specs.Value.{getTold, setTold, setLeft, canTold}
 use Rattle.attribute_server.specs.Subscription.{subscribedTold}
-use Rattle.attribute_server.specs.Table.{fetchedTold, restoredTold, restoredTables}
+use Rattle.attribute_server.specs.Table.{fetchedTold, restoredTold, restoredLeft}
 
--- a link's prepared write, and the bytes lent beside it
-pub record Waiting : Type 0 where
-  pub prepared : Prepared
-  pub bytes : List ℕ
-
--- all that is lent to the calls; each link has a number, and under it what waits there
+-- all that is lent to the calls: the state, and, as each link has a number, under it what waits there
 pub record Hub : Type 0 where
-  pub list : List (List ℕ)
-  pub store : List ℕ
-  pub row : List Slot
-  pub tables : List (List ℕ)
+  pub state : State
   pub waiting : ℕ → Waiting
 
 -- a request: the link's level now and its number, what it asks and brings, and how long the response buffer is
@@ -39,81 +30,70 @@ pub record Asked : Type 0 where
   pub brings : List ℕ
   pub room : ℕ
 
--- the public calls, with what each is given besides the hub and the identity
+-- the public calls that only look, with what each is given besides the hub and the identity
+pub data Look : Type 0 where
+  Get : ℕ → ℕ → Look
+  Can : Wish → Link → ℕ → Look
+  ShouldNotify : ℕ → Look
+  ShouldIndicate : ℕ → Look
+  GetTable : Look
+
+-- and all of them
 pub data Deed : Type 0 where
   Process : Asked → Deed
   Connect : Deed
   Disconnect : Bool → Deed
-  Get : ℕ → ℕ → Deed
   Set : ℕ → List ℕ → Deed
-  CanRead : Link → ℕ → Deed
-  CanWrite : Link → ℕ → Deed
-  ShouldNotify : ℕ → Deed
-  ShouldIndicate : ℕ → Deed
-  GetTable : Deed
   SetTable : List ℕ → Deed
+  Looks : Look → Deed
 
 pub record Call : Type 0 where
   pub who : Identity
   pub deed : Deed
 
--- a request, with all that it meets
-abbrev pub meeting : Hub → Identity → Asked → Meeting
-meeting s who q =
-    let w = s .waiting (q .link) in
-    call (s .list) (s .store) (s .row) (s .tables) who (q .level) (w .prepared) (w .bytes) (q .request) (q .brings)
+-- a request of somebody's
+abbrev pub queryOf : Identity → Asked → Query
+queryOf who q = query who (q .level) (q .request) (q .brings)
 
 -- what a call tells
+unfoldable pub lookTold : State → Identity → Look → Told
+lookTold s who (Get h room) = getTold s who h room
+lookTold s who (Can wish link h) = canTold s who wish link h
+lookTold s who (ShouldNotify h) = subscribedTold s who h 1
+lookTold s who (ShouldIndicate h) = subscribedTold s who h 2
+lookTold s who GetTable = fetchedTold s who
+
 unfoldable pub toldBy : Hub → Identity → Deed → Told
-toldBy s who (Process q) = processTold (meeting s who q) (q .room)
-toldBy s who Connect = connectTold (s .list) (length (s .store)) (s .row) (s .tables) who
-toldBy s who (Disconnect bonded) = disconnectTold (s .list) (length (s .store)) (s .row) (s .tables) who
-toldBy s who (Get h room) = getTold (s .list) (s .store) (s .row) (s .tables) who h room
-toldBy s who (Set h d) = setTold (s .list) (s .store) (s .row) (s .tables) who h (length d)
-toldBy s who (CanRead link h) = canReadTold (s .list) (length (s .store)) (s .row) (s .tables) who link h
-toldBy s who (CanWrite link h) = canWriteTold (s .list) (length (s .store)) (s .row) (s .tables) who link h
-toldBy s who (ShouldNotify h) = subscribedTold (s .list) (length (s .store)) (s .row) (s .tables) who h 1
-toldBy s who (ShouldIndicate h) = subscribedTold (s .list) (length (s .store)) (s .row) (s .tables) who h 2
-toldBy s who GetTable = fetchedTold (s .list) (length (s .store)) (s .row) (s .tables) who
-toldBy s who (SetTable saved) = restoredTold (s .list) (length (s .store)) (s .row) (s .tables) who saved
+toldBy x who (Process q) = processTold (x .state) (x .waiting (q .link)) (queryOf who q) (q .room)
+toldBy x who Connect = connectTold (x .state) who
+toldBy x who (Disconnect bonded) = disconnectTold (x .state) who bonded
+toldBy x who (Set h d) = setTold (x .state) who h (length d)
+toldBy x who (SetTable saved) = restoredTold (x .state) who saved
+toldBy x who (Looks l) = lookTold (x .state) who l
 
 abbrev pub told : Hub → Call → Told
-told s c = toldBy s (c .who) (c .deed)
+told x c = toldBy x (c .who) (c .deed)
 
--- the hub with other bytes of the list, the store and the tables; with another row and other tables; with something else waiting at one link
-abbrev pub withLent : Hub → Lent → Hub
-withLent s l = record { list = l .list; store = l .store; row = s .row; tables = l .tables; waiting = s .waiting }
-
-abbrev pub withRow : Hub → List Slot → List (List ℕ) → Hub
-withRow s row ts = record { list = s .list; store = s .store; row = row; tables = ts; waiting = s .waiting }
+-- the hub with another state; with something else waiting at one link
+abbrev pub withState : Hub → State → Hub
+withState x s = record { state = s; waiting = x .waiting }
 
 abbrev pub waitingAt : (ℕ → Waiting) → ℕ → Waiting → ℕ → Waiting
-waitingAt w i x j = cond (eqb j i) x (w j)
+waitingAt w i y j = cond (eqb j i) y (w j)
 
 abbrev pub withWaiting : Hub → ℕ → Waiting → Hub
-withWaiting s i x = record { list = s .list; store = s .store; row = s .row; tables = s .tables; waiting = waitingAt (s .waiting) i x }
+withWaiting x i y = record { state = x .state; waiting = waitingAt (x .waiting) i y }
 
--- what a call leaves
+-- what a call leaves: one that only looks leaves all as it was
 unfoldable pub stepBy : Hub → Identity → Deed → Hub
-stepBy s who (Process q) =
-    let k = meeting s who q in
-    withWaiting (withLent s (processLent k (q .room))) (q .link)
-    (record { prepared = processRecord k (q .room); bytes = processBytes k (q .room) })
-stepBy s who Connect =
-    withRow s (connectRow (s .list) (length (s .store)) (s .row) (s .tables) who)
-    (connectTables (s .list) (length (s .store)) (s .row) (s .tables) who)
-stepBy s who (Disconnect bonded) =
-    withRow s (disconnectRow (s .list) (length (s .store)) (s .row) (s .tables) who bonded)
-    (disconnectTables (s .list) (length (s .store)) (s .row) (s .tables) who bonded)
-stepBy s who (Get h room) = s
-stepBy s who (Set h d) = withLent s (setLent (s .list) (s .store) (s .row) (s .tables) who h d)
-stepBy s who (CanRead link h) = s
-stepBy s who (CanWrite link h) = s
-stepBy s who (ShouldNotify h) = s
-stepBy s who (ShouldIndicate h) = s
-stepBy s who GetTable = s
-stepBy s who (SetTable saved) =
-    withRow s (s .row) (restoredTables (s .list) (length (s .store)) (s .row) (s .tables) who saved)
+stepBy x who (Process q) =
+    let w = x .waiting (q .link) in
+    withWaiting (withState x (processLeft (x .state) w (queryOf who q) (q .room))) (q .link) (processWaits (x .state) w (queryOf who q) (q .room))
+stepBy x who Connect = withState x (connectLeft (x .state) who)
+stepBy x who (Disconnect bonded) = withState x (disconnectLeft (x .state) who bonded)
+stepBy x who (Set h d) = withState x (setLeft (x .state) who h d)
+stepBy x who (SetTable saved) = withState x (restoredLeft (x .state) who saved)
+stepBy x who (Looks l) = x
 
 abbrev pub step : Hub → Call → Hub
-step s c = stepBy s (c .who) (c .deed)
+step x c = stepBy x (c .who) (c .deed)

@@ -16,13 +16,14 @@ use Rattle.attribute.specs.declared.Access.{Access}
 use Rattle.peers.specs.Identity.{sameId}
 use Rattle.peers.specs.Slots.{matches, noSlot}
 use Rattle.peers.specs.declared.Identity.{Identity}
+use Rattle.state.specs.State.{State, Waiting}
 use Rattle.model.specs.Value.{sharedItem}
 use Rattle.model.specs.View.{ifMet, pendingOf}
+use Rattle.model.specs.declared.Answer.{Answer}
 use Rattle.model.specs.declared.Request.{Request}
 use Rattle.model.specs.declared.Request.the-variants as request
-use Rattle.writing.specs.declared.Changed.{Changed}
 use Rattle.attribute_server.specs.Request.{Processed}
-use Rattle.secrecy.specs.Hub.{Waiting, Hub, Asked, Deed, Process, Connect, Disconnect, Get, Set, CanRead, CanWrite, ShouldNotify, ShouldIndicate, GetTable, SetTable, Call, meeting, told, step}
+use Rattle.secrecy.specs.Hub.{Hub, Asked, Deed, Process, Connect, Disconnect, Set, SetTable, Looks, Call, queryOf, told, step}
 use Rattle.secrecy.specs.Valid.{Valid}
 
 -- THE EXCEPTION: the answer to Find By Type Value is not compared, since it looks at every shared value, whoever asks
@@ -38,14 +39,9 @@ unfoldable pub isRequest : (Asked → Bool) → Deed → Bool
 isRequest p (Process q) = p q
 isRequest p Connect = false
 isRequest p (Disconnect bonded) = false
-isRequest p (Get h room) = false
 isRequest p (Set h d) = false
-isRequest p (CanRead link h) = false
-isRequest p (CanWrite link h) = false
-isRequest p (ShouldNotify h) = false
-isRequest p (ShouldIndicate h) = false
-isRequest p GetTable = false
 isRequest p (SetTable saved) = false
+isRequest p (Looks l) = false
 
 -- a request is t's where it carries t's identity
 abbrev pub asks : Identity → Call → Bool
@@ -53,8 +49,8 @@ asks t c = both (sameId (c .who) t) (isRequest (λ q. isCompared (q .request)) (
 
 -- what t hears, in order: each answer, with its bytes, and each refusal
 unfoldable pub heard : Identity → Hub → List Call → List Told
-heard t s [] = []
-heard t s (c ∷ cs) = cond (asks t c) (told s c ∷ heard t (step s c) cs) (heard t (step s c) cs)
+heard t x [] = []
+heard t x (c ∷ cs) = cond (asks t c) (told x c ∷ heard t (step x c) cs) (heard t (step x c) cs)
 
 -- is this a request of t's over a link that meets a need for reading? and is there one among the calls?
 abbrev pub isGranted : Access → Bool
@@ -72,39 +68,40 @@ pub record SameWaiting (x y : Waiting) : Type 0 where
   pub prepared : x .prepared ≡ y .prepared
   pub pending : pendingOf (x .prepared) (x .bytes) ≡ pendingOf (y .prepared) (y .bytes)
 
-abbrev pub attributeAt : Hub → ℕ → Attribute
+abbrev pub attributeAt : State → ℕ → Attribute
 attributeAt s i = attributeOf (getD (s .list) i [])
 
--- what the two hubs agree on, where t's links meet the needs of `may`
-pub record Agree (t : Identity) (may : ℕ → Bool) (a b : Hub) : Type 0 where
+-- what two states agree on, where t's links meet the needs of `may`
+pub record AgreeOn (t : Identity) (may : ℕ → Bool) (a b : State) : Type 0 where
   -- the attribute list, and with it the lengths of shared values
   pub list : a .list ≡ b .list
   -- the tablets' records: identities, connected or not
   pub row : a .row ≡ b .row
-  -- the prepared writes of every link
-  pub waiting : (i : ℕ) → SameWaiting (a .waiting i) (b .waiting i)
   -- every shared value that t may read
   pub shared : (i : ℕ) → i < length (a .list) → attributeAt a i .client ≡ false → may (attributeAt a i .reads) ≡ true → sharedItem (a .store) (attributeAt a i) ≡ sharedItem (b .store) (attributeAt a i)
   -- all values kept for t, in every slot of t's
   pub kept : (i : ℕ) → matches t (getD (a .row) i noSlot) ≡ true → view (getD (a .tables) i []) ≡ view (getD (b .tables) i [])
+
+-- what two hubs agree on: that, and the prepared writes of every link
+pub record Agree (t : Identity) (may : ℕ → Bool) (a b : Hub) : Type 0 where
+  pub state : AgreeOn t may (a .state) (b .state)
+  pub waiting : (i : ℕ) → SameWaiting (a .waiting i) (b .waiting i)
 
 abbrev pub Secrecy : Type 0
 Secrecy =
     (t : Identity) (calls : List Call) (a b : Hub) → Valid a → Valid b → Agree t (everReaches t calls) a b
     → heard t a calls ≡ heard t b calls
 
--- The same of the code. What a run of `process` leaves: its answer and every lent byte
+-- The same of the code. What a run of `process` leaves: its answer, the state and what waits at the link, and the buffer
 pub record Outcome : Type 0 where
-  pub changed : Changed
-  pub list : List (List ℕ)
-  pub store : List ℕ
-  pub tables : List (List ℕ)
-  pub bytes : List ℕ
+  pub answer : Answer
+  pub state : State
+  pub waiting : Waiting
   pub out : List ℕ
 
 -- it meets the promise of `process` for this request, on this hub, with this buffer
 abbrev pub Keeps : Hub → Identity → Asked → List ℕ → Outcome → Type 0
-Keeps s t q out r = Processed (meeting s t q) out (r .changed) (r .list) (r .store) (r .tables) (r .bytes) (r .out)
+Keeps x t q out r = Processed (x .state) (x .waiting (q .link)) (queryOf t q) out (r .answer) (r .state) (r .waiting) (r .out)
 
 abbrev pub requestOf : Identity → Asked → Call
 requestOf t q = record { who = t; deed = Process q }
@@ -115,4 +112,4 @@ SecretAnswers =
     (t : Identity) (calls : List Call) (q : Asked) (a b : Hub) → Valid a → Valid b → Agree t (everReaches t (calls ++ (requestOf t q ∷ []))) a b
     → isCompared (q .request) ≡ true → (out : List ℕ) → length out ≡ q .room → (r r′ : Outcome)
     → Keeps (afterAll step a calls) t q out r → Keeps (afterAll step b calls) t q out r′
-    → (r .changed .answer ≡ r′ .changed .answer) × (r .out ≡ r′ .out)
+    → (r .answer ≡ r′ .answer) × (r .out ≡ r′ .out)

@@ -4,46 +4,33 @@ use mathlib.Core.Path.{_≡_}
 use mathlib.Core.Bool.{true}
 use mathlib.Core.List.{List, []}
 use lib.ListN.{length, getD}
+use Rattle.wire.specs.Size.{recordBytes, slotCount, tableBytes, valueBytes}
 use Rattle.wire.specs.Run.{afterAll}
 use Rattle.table_view.specs.Told.{done}
-use Rattle.state.specs.Fresh.{newTold, tablesNew, emptyRow}
+use Rattle.state.specs.State.{State, waiting}
+use Rattle.state.specs.Fresh.{newTold, newLeft}
 use Rattle.state.specs.Valid.{valid, recordOk}
 use Rattle.model.specs.Change.{noRecord}
 use Rattle.secrecy.specs.Hub.{Hub, Call, step}
 
--- the state is valid, and so is what waits at each link: the tests of every call
-pub record Valid (s : Hub) : Type 0 where
-  pub state : valid (s .list) (length (s .store)) (s .row) (s .tables) ≡ true
-  pub waiting : (i : ℕ) → recordOk (s .waiting i .prepared) ≡ true
-  -- and what the types of the lent bytes say: a record has 32, a table 640, a prepared write 512
-  pub records : (i : ℕ) → i < length (s .list) → length (getD (s .list) i []) ≡ 32
-  pub tables : (i : ℕ) → i < 8 → length (getD (s .tables) i []) ≡ 640
-  pub bytes : (i : ℕ) → length (s .waiting i .bytes) ≡ 512
+-- what the types of the lent bytes say: a record has 32, a table 640
+pub record Sized (s : State) : Type 0 where
+  pub records : (i : ℕ) → i < length (s .list) → length (getD (s .list) i []) ≡ recordBytes
+  pub tables : (i : ℕ) → i < slotCount → length (getD (s .tables) i []) ≡ tableBytes
 
--- a list, a store, tables, and the bytes lent for each link's prepared write
-pub record Given : Type 0 where
-  pub list : List (List ℕ)
-  pub store : List ℕ
-  pub tables : List (List ℕ)
-  pub bytes : ℕ → List ℕ
+-- the state is valid, and so is what waits at each link: the tests of every call; and a prepared write has 512 bytes
+pub record Valid (x : Hub) : Type 0 where
+  pub state : valid (x .state) ≡ true
+  pub sized : Sized (x .state)
+  pub waiting : (i : ℕ) → recordOk (x .waiting i .prepared) ≡ true
+  pub bytes : (i : ℕ) → length (x .waiting i .bytes) ≡ valueBytes
 
-pub record Sized (g : Given) : Type 0 where
-  pub records : (i : ℕ) → i < length (g .list) → length (getD (g .list) i []) ≡ 32
-  pub bytes : (i : ℕ) → length (g .bytes i) ≡ 512
-
--- the hub that `new` makes of them, with nothing prepared
-abbrev pub fresh : Given → Hub
-fresh g =
-    record {
-      list = g .list;
-      store = g .store;
-      row = emptyRow;
-      tables = tablesNew (g .list) (length (g .store)) (g .tables);
-      waiting = λ i. record { prepared = noRecord; bytes = g .bytes i };
-    }
+-- the hub that `new` makes of what is lent to it, with nothing prepared
+abbrev pub fresh : State → (ℕ → List ℕ) → Hub
+fresh s bytes = record { state = newLeft s; waiting = λ i. waiting noRecord (bytes i) }
 
 -- where `new` says done, whatever is called then, by anybody and with anything, the hub stays valid
 abbrev pub StaysValid : Type 0
 StaysValid =
-    (g : Given) → Sized g → newTold (g .list) (length (g .store)) (length (g .tables)) ≡ done
-    → (calls : List Call) → Valid (afterAll step (fresh g) calls)
+    (s : State) (bytes : ℕ → List ℕ) → newTold s ≡ done → ((i : ℕ) → i < length (s .list) → length (getD (s .list) i []) ≡ recordBytes) → ((i : ℕ) → length (bytes i) ≡ valueBytes)
+    → (calls : List Call) → Valid (afterAll step (fresh s bytes) calls)

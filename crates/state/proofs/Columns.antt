@@ -11,6 +11,7 @@ use lib.ListN.{length, getD, take, drop, drop-of-length-le}
 use lib.Seq.{drop-cons}
 use lib.Dec.{eqb}
 use borrow.Author.Tests.{eqb-true, eq-eqb}
+use Rattle.wire.specs.Size.{slotCount}
 use Rattle.wire.specs.Test.{both}
 use Rattle.wire.proofs.Tests.{both-l, both-r, both-true, same-test, split}
 use Rattle.wire.proofs.Fold.{or-none, turn, end}
@@ -47,16 +48,16 @@ every-both p q ts =
     (λ h. every-by (λ t. both (p t) (q t)) ts (λ i l. both-true _ _ (every-at p ts (both-l _ _ h) i l) (every-at q ts (both-r _ _ h) i l)))
 
 -- eight tables, one after the other
-pub eight : (p : List ℕ → Bool) (ts : List (List ℕ)) → length ts ≡ 8 → both (both (both (both (both (both (both (p (getD ts 0 [])) (p (getD ts 1 []))) (p (getD ts 2 []))) (p (getD ts 3 []))) (p (getD ts 4 []))) (p (getD ts 5 []))) (p (getD ts 6 []))) (p (getD ts 7 [])) ≡ every p ts
+pub eight : (p : List ℕ → Bool) (ts : List (List ℕ)) → length ts ≡ slotCount → both (both (both (both (both (both (both (p (getD ts 0 [])) (p (getD ts 1 []))) (p (getD ts 2 []))) (p (getD ts 3 []))) (p (getD ts 4 []))) (p (getD ts 5 []))) (p (getD ts 6 []))) (p (getD ts 7 [])) ≡ every p ts
 eight p ts e =
     same-test _ _
     (λ h. every-by p ts (λ i l. by h i (omega arith)))
     (λ h. both-true _ _ (both-true _ _ (both-true _ _ (both-true _ _ (both-true _ _ (both-true _ _ (both-true _ _ (at h 0 (omega arith)) (at h 1 (omega arith))) (at h 2 (omega arith))) (at h 3 (omega arith))) (at h 4 (omega arith))) (at h 5 (omega arith))) (at h 6 (omega arith))) (at h 7 (omega arith)))
   where
-    at : every p ts ≡ true → (i : ℕ) → i < 8 → p (getD ts i []) ≡ true
+    at : every p ts ≡ true → (i : ℕ) → i < slotCount → p (getD ts i []) ≡ true
     at h i l = every-at p ts h i (omega arith)
 
-    by : both (both (both (both (both (both (both (p (getD ts 0 [])) (p (getD ts 1 []))) (p (getD ts 2 []))) (p (getD ts 3 []))) (p (getD ts 4 []))) (p (getD ts 5 []))) (p (getD ts 6 []))) (p (getD ts 7 [])) ≡ true → (i : ℕ) → i < 8 → p (getD ts i []) ≡ true
+    by : both (both (both (both (both (both (both (p (getD ts 0 [])) (p (getD ts 1 []))) (p (getD ts 2 []))) (p (getD ts 3 []))) (p (getD ts 4 []))) (p (getD ts 5 []))) (p (getD ts 6 []))) (p (getD ts 7 [])) ≡ true → (i : ℕ) → i < slotCount → p (getD ts i []) ≡ true
     by h zero l = both-l _ _ (both-l _ _ (both-l _ _ (both-l _ _ (both-l _ _ (both-l _ _ (both-l _ _ h))))))
     by h (suc zero) l = both-r _ _ (both-l _ _ (both-l _ _ (both-l _ _ (both-l _ _ (both-l _ _ (both-l _ _ h))))))
     by h (suc (suc zero)) l = both-r _ _ (both-l _ _ (both-l _ _ (both-l _ _ (both-l _ _ (both-l _ _ h)))))
@@ -67,13 +68,13 @@ eight p ts e =
     by h (suc (suc (suc (suc (suc (suc (suc zero))))))) l = both-r _ _ h
     by h (suc (suc (suc (suc (suc (suc (suc (suc i)))))))) l = absurd (omega arith)
 
-pub eight-by : (p : List ℕ → Bool) (ts : List (List ℕ)) → length ts ≡ 8 → p (getD ts 0 []) ≡ true → p (getD ts 1 []) ≡ true → p (getD ts 2 []) ≡ true → p (getD ts 3 []) ≡ true → p (getD ts 4 []) ≡ true → p (getD ts 5 []) ≡ true → p (getD ts 6 []) ≡ true → p (getD ts 7 []) ≡ true → every p ts ≡ true
+pub eight-by : (p : List ℕ → Bool) (ts : List (List ℕ)) → length ts ≡ slotCount → p (getD ts 0 []) ≡ true → p (getD ts 1 []) ≡ true → p (getD ts 2 []) ≡ true → p (getD ts 3 []) ≡ true → p (getD ts 4 []) ≡ true → p (getD ts 5 []) ≡ true → p (getD ts 6 []) ≡ true → p (getD ts 7 []) ≡ true → every p ts ≡ true
 eight-by p ts n a b c d e f g h =
     sym (eight p ts n)
     ∙ both-true _ _ (both-true _ _ (both-true _ _ (both-true _ _ (both-true _ _ (both-true _ _ (both-true _ _ a b) c) d) e) f) g) h
 
 -- and what a fold over a column of them comes to
-pub folded : (p : List ℕ → Bool) (ts : List (List ℕ)) → length ts ≡ 8 → (a b c d e f g h : ℕ) → eqb a 0 ≡ p (getD ts 0 []) → eqb b 0 ≡ p (getD ts 1 []) → eqb c 0 ≡ p (getD ts 2 []) → eqb d 0 ≡ p (getD ts 3 []) → eqb e 0 ≡ p (getD ts 4 []) → eqb f 0 ≡ p (getD ts 5 []) → eqb g 0 ≡ p (getD ts 6 []) → eqb h 0 ≡ p (getD ts 7 []) → eqb (bitOr (bitOr (bitOr (bitOr (bitOr (bitOr (bitOr a b) c) d) e) f) g) h) 0 ≡ every p ts
+pub folded : (p : List ℕ → Bool) (ts : List (List ℕ)) → length ts ≡ slotCount → (a b c d e f g h : ℕ) → eqb a 0 ≡ p (getD ts 0 []) → eqb b 0 ≡ p (getD ts 1 []) → eqb c 0 ≡ p (getD ts 2 []) → eqb d 0 ≡ p (getD ts 3 []) → eqb e 0 ≡ p (getD ts 4 []) → eqb f 0 ≡ p (getD ts 5 []) → eqb g 0 ≡ p (getD ts 6 []) → eqb h 0 ≡ p (getD ts 7 []) → eqb (bitOr (bitOr (bitOr (bitOr (bitOr (bitOr (bitOr a b) c) d) e) f) g) h) 0 ≡ every p ts
 folded p ts n a b c d e f g h pa pb pc pd pe pf pg ph =
     simp or-none (rw (pa, pb, pc, pd, pe, pf, pg, ph) (eight p ts n))
 

@@ -1,13 +1,14 @@
 -- Valid in, valid out: a fresh hub is valid, and connecting and leaving keep a valid state valid. Assumes nothing.
 use mathlib.Core.Path.{_≡_, refl, sym, _∙_}
-use mathlib.Core.Bool.{true, false}
+use mathlib.Core.Bool.{Bool, true, false}
 use mathlib.Core.List.{List, []}
 use mathlib.Core.Logic.{⊎-elim}
-use Prim.Native.Nat.{ℕ, _+_, _-_, _≤_, _<_}
+use Prim.Native.Nat.{ℕ, _+_, _≤_, _<_}
 use native.Mathlib.Omega.{arith}
-use lib.ListN.{length, getD, take, drop, set, length-take, length-drop}
+use lib.ListN.{length, getD, take, drop, length-take, length-drop}
 use lib.Seq.{ext-getD, getD-take, getD-drop}
 use borrow.Author.Tests.{eq-eqb, eqb-true, le-leb, leb-true}
+use Rattle.wire.specs.Size.{slotCount, tableBytes}
 use Rattle.wire.specs.Bytes.{zeros, alike}
 use Rattle.wire.proofs.Tests.{both-l, both-r, both-true, split}
 use Rattle.wire.proofs.Fold.{zero-at, zeros-from, from-zeros, later-zeros, alike-eq, alike-self}
@@ -21,9 +22,11 @@ use Rattle.client_att_table.proofs.Clearing.{clear-kept, clear-byte}
 use Rattle.table_builder.specs.Push.{builder}
 use Rattle.attribute.specs.Rules.{listOk}
 use Rattle.peers.specs.Identity.{isEmpty}
-use Rattle.peers.specs.Slots.{clearAt, noSlot, Tables}
+use Rattle.peers.specs.Slots.{rowMoved, tablesMoved, noSlot, Tables}
 use Rattle.peers.specs.declared.Slot.{Slot}
-use Rattle.peers.proofs.Changes.{slot-set, slot-cleared, new-slot, clear-table}
+use Rattle.peers.specs.declared.Move.{Move}
+use Rattle.peers.proofs.Changes.{moved-only, new-slot, row-stays, clear-table, kept-tables}
+use Rattle.state.specs.State.{State, state, moved}
 use Rattle.state.specs.Fresh.{freshTable, tableSize}
 use Rattle.state.specs.Valid.{laidOut, slotOk, slotsOk, valid}
 use Rattle.state.proofs.Testing.{same-index, joined}
@@ -49,7 +52,7 @@ pub laid-accepts : (fresh t : List ℕ) → laidOut fresh t ≡ true → accepts
 unfolding laidOut
 laid-accepts fresh t l = both-l _ _ (both-r _ _ l)
 
-module _ (fresh : List ℕ) (lf : length fresh ≡ 640) (b : builder fresh ≡ true) where
+module _ (fresh : List ℕ) (lf : length fresh ≡ tableBytes) (b : builder fresh ≡ true) where
   pub fresh-laid : laidOut fresh fresh ≡ true
   unfolding laidOut builder
   fresh-laid =
@@ -61,7 +64,7 @@ module _ (fresh : List ℕ) (lf : length fresh ≡ 640) (b : builder fresh ≡ t
   nobodys s e = both-true _ _ fresh-laid (rw e (alike-self fresh))
 
   -- a table that is laid out, cleared
-  module _ (t : List ℕ) (lt : length t ≡ 640) (l : laidOut fresh t ≡ true) where
+  module _ (t : List ℕ) (lt : length t ≡ tableBytes) (l : laidOut fresh t ≡ true) where
     head : alike (take (baseOf fresh) t) (take (baseOf fresh) fresh) ≡ true
     unfolding laidOut
     head = both-l _ _ l
@@ -125,80 +128,89 @@ module _ (fresh : List ℕ) (lf : length fresh ≡ 640) (b : builder fresh ≡ t
         (λ j h. getD-drop (baseOf fresh) (cleared t) j 0 ∙ rest-zero (baseOf fresh + j) (omega arith) ∙ sym (fresh-rest j)))
 
 -- what a valid state has
-module _ (list : List (List ℕ)) (store : ℕ) (row : List Slot) (ts : List (List ℕ)) (v : valid list store row ts ≡ true) where
-  pub eight-tables : length ts ≡ 8
+module _ (s : State) (v : valid s ≡ true) where
+  pub eight-tables : length (s .tables) ≡ slotCount
   unfolding valid
   eight-tables = eqb-true _ _ (both-l _ _ v)
 
-  pub right-list : listOk list store ≡ true
+  pub right-list : listOk (s .list) (length (s .store)) ≡ true
   unfolding valid
   right-list = both-l _ _ (both-r _ _ v)
 
-  pub table-fits : tableSize list ≤ 640
+  pub table-fits : tableSize (s .list) ≤ tableBytes
   unfolding valid
   table-fits = leb-true _ _ (both-l _ _ (both-r _ _ (both-r _ _ v)))
 
-  pub right-slots : slotsOk (freshTable list) row ts ≡ true
+  pub right-slots : slotsOk (freshTable (s .list)) (s .row) (s .tables) ≡ true
   unfolding valid
   right-slots = both-r _ _ (both-r _ _ (both-r _ _ v))
 
-  pub laid-at : (i : ℕ) → i < 8 → laidOut (freshTable list) (getD ts i []) ≡ true
+  pub eight-slots : length (s .row) ≡ slotCount
+  eight-slots = slots-count (freshTable (s .list)) (s .row) (s .tables) right-slots ∙ eight-tables
+
+  pub laid-at : (i : ℕ) → i < slotCount → laidOut (freshTable (s .list)) (getD (s .tables) i []) ≡ true
   laid-at i h =
-      let n = slots-count (freshTable list) row ts right-slots in
-      let m = eight-tables in
-      slot-laid (freshTable list) (getD row i noSlot) (getD ts i []) (slot-at (freshTable list) row ts right-slots i (omega arith))
+      slot-laid (freshTable (s .list)) (getD (s .row) i noSlot) (getD (s .tables) i [])
+      (slot-at (freshTable (s .list)) (s .row) (s .tables) right-slots i (omega (arith, eight-slots)))
 
   -- its tables can be read, so that the calls of `peers` can be made
-  pub tables-read : Tables ts
-  tables-read = record { eight = eight-tables; read = λ i h. laid-accepts (freshTable list) (getD ts i []) (laid-at i h) }
+  pub tables-read : Tables (s .tables)
+  tables-read = record { eight = eight-tables; read = λ i h. laid-accepts (freshTable (s .list)) (getD (s .tables) i []) (laid-at i h) }
 
-  pub with-slots : (row′ : List Slot) (ts′ : List (List ℕ)) → length ts′ ≡ length ts → slotsOk (freshTable list) row′ ts′ ≡ true → valid list store row′ ts′ ≡ true
+  pub with-slots : (row : List Slot) (ts : List (List ℕ)) → length ts ≡ length (s .tables) → slotsOk (freshTable (s .list)) row ts ≡ true
+      → valid (state (s .list) (s .store) row ts) ≡ true
   unfolding valid
-  with-slots row′ ts′ n h =
+  with-slots row ts n h =
       both-true _ _ (eq-eqb _ _ (n ∙ eight-tables))
       (both-true _ _ right-list (both-true _ _ (le-leb _ _ table-fits) h))
 
-  module _ (sized : (i : ℕ) → i < 8 → length (getD ts i []) ≡ 640) (i : ℕ) (hi : i < length row) where
-    pub inside : i < 8
-    inside = let n = slots-count (freshTable list) row ts right-slots in let m = eight-tables in omega arith
+  -- a move to a slot asks for that slot's test alone, and one past the end changes nothing
+  move-valid : (m : Move) → m .place < length (s .row) → slotOk (freshTable (s .list)) (m .slot) (getD (tablesMoved (s .tables) m) (m .place) []) ≡ true → valid (moved s m) ≡ true
+  move-valid m i h =
+      let o = moved-only (s .row) (s .tables) m in
+      with-slots (rowMoved (s .row) m) (tablesMoved (s .tables) m) (o .tables)
+      (slot-changed (freshTable (s .list)) (m .place) (s .row) (rowMoved (s .row) m) (s .tables) (tablesMoved (s .tables) m) o right-slots (rw (new-slot (s .row) m i) h))
+
+  pub stay-valid : (m : Move) → length (s .row) ≤ m .place → m .clears ≡ false → valid (moved s m) ≡ true
+  stay-valid m h e = rw (row-stays (s .row) m h, kept-tables (s .tables) m e) v
+
+  module _ (sized : (i : ℕ) → i < slotCount → length (getD (s .tables) i []) ≡ tableBytes) (i : ℕ) (hi : i < length (s .row)) where
+    pub inside : i < slotCount
+    inside = omega (arith, eight-slots)
 
     -- nobody's table is the fresh one, and so is one that is cleared
-    pub nobodys-table : isEmpty (getD row i noSlot .id) ≡ true → getD ts i [] ≡ freshTable list
+    pub nobodys-table : isEmpty (getD (s .row) i noSlot .id) ≡ true → getD (s .tables) i [] ≡ freshTable (s .list)
     unfolding slotOk
-    nobodys-table e = alike-eq _ _ (rw e at (both-r _ _ (slot-at (freshTable list) row ts right-slots i hi)))
+    nobodys-table e = alike-eq _ _ (rw e at (both-r _ _ (slot-at (freshTable (s .list)) (s .row) (s .tables) right-slots i hi)))
 
-    pub cleared-table : cleared (getD ts i []) ≡ freshTable list
-    cleared-table = clear-fresh (freshTable list) (fresh-length list) (fresh-builder list) (getD ts i []) (sized i inside) (laid-at i inside)
+    pub cleared-table : cleared (getD (s .tables) i []) ≡ freshTable (s .list)
+    cleared-table =
+        clear-fresh (freshTable (s .list)) (fresh-length (s .list)) (fresh-builder (s .list)) (getD (s .tables) i []) (sized i inside) (laid-at i inside)
 
-    -- a slot with another owner or flag, and its table as it was
-    slot-valid : (s : Slot) → slotOk (freshTable list) s (getD ts i []) ≡ true → valid list store (set row i s) ts ≡ true
-    slot-valid s h =
-        with-slots (set row i s) ts refl
-        (slot-changed (freshTable list) i row (set row i s) ts ts (slot-set i row s ts) right-slots (rw (new-slot i row s ts hi) h))
+    -- with its table cleared
+    cleared-valid : (x : Slot) (f : Bool) → slotOk (freshTable (s .list)) x (cleared (getD (s .tables) i [])) ≡ true
+        → valid (moved s (record { place = i; slot = x; clears = true; full = f })) ≡ true
+    cleared-valid x f h =
+        let m : Move = record { place = i; slot = x; clears = true; full = f } in
+        move-valid m hi (rw (clear-table (s .tables) m refl (omega (arith, inside, eight-tables))) h)
 
-    -- and with its table cleared
-    cleared-valid : (s : Slot) → slotOk (freshTable list) s (cleared (getD ts i [])) ≡ true → valid list store (set row i s) (clearAt ts i) ≡ true
-    cleared-valid s h =
-        let o = slot-cleared i row s ts in
-        let m = eight-tables in
-        with-slots (set row i s) (clearAt ts i) (o .tables)
-        (slot-changed (freshTable list) i row (set row i s) ts (clearAt ts i) o right-slots
-        (rw (new-slot i row s ts hi, clear-table i row s ts (omega (arith, inside))) h))
+    pub taken-valid : (x : Slot) → isEmpty (x .id) ≡ false → valid (moved s (record { place = i; slot = x; clears = false; full = false })) ≡ true
+    taken-valid x e =
+        move-valid (record { place = i; slot = x; clears = false; full = false }) hi
+        (somebody (freshTable (s .list)) x (getD (s .tables) i []) (laid-at i inside) e)
 
-    pub taken-valid : (s : Slot) → isEmpty (s .id) ≡ false → valid list store (set row i s) ts ≡ true
-    taken-valid s e = slot-valid s (somebody (freshTable list) s (getD ts i []) (laid-at i inside) e)
+    pub retaken-valid : (x : Slot) → isEmpty (x .id) ≡ false → valid (moved s (record { place = i; slot = x; clears = true; full = false })) ≡ true
+    retaken-valid x e =
+        cleared-valid x false
+        (somebody (freshTable (s .list)) x (cleared (getD (s .tables) i []))
+        (clear-laid (freshTable (s .list)) (fresh-length (s .list)) (fresh-builder (s .list)) (getD (s .tables) i []) (sized i inside) (laid-at i inside)) e)
 
-    pub retaken-valid : (s : Slot) → isEmpty (s .id) ≡ false → valid list store (set row i s) (clearAt ts i) ≡ true
-    retaken-valid s e =
-        cleared-valid s
-        (somebody (freshTable list) s (cleared (getD ts i []))
-        (clear-laid (freshTable list) (fresh-length list) (fresh-builder list) (getD ts i []) (sized i inside) (laid-at i inside)) e)
+    pub parted-valid : (x : Slot) → x .id ≡ getD (s .row) i noSlot .id → valid (moved s (record { place = i; slot = x; clears = false; full = false })) ≡ true
+    parted-valid x e =
+        move-valid (record { place = i; slot = x; clears = false; full = false }) hi
+        (same-owner (freshTable (s .list)) (getD (s .row) i noSlot) (getD (s .tables) i []) x e (slot-at (freshTable (s .list)) (s .row) (s .tables) right-slots i hi))
 
-    pub parted-valid : (s : Slot) → s .id ≡ getD row i noSlot .id → valid list store (set row i s) ts ≡ true
-    parted-valid s e = slot-valid s (same-owner (freshTable list) (getD row i noSlot) (getD ts i []) s e (slot-at (freshTable list) row ts right-slots i hi))
-
-    pub emptied-valid : (s : Slot) → isEmpty (s .id) ≡ true → valid list store (set row i s) (clearAt ts i) ≡ true
-    emptied-valid s e =
-        let f = freshTable list in
-        cleared-valid s
-        (rw cleared-table (nobodys f (fresh-length list) (fresh-builder list) s e))
+    pub emptied-valid : (x : Slot) → isEmpty (x .id) ≡ true → valid (moved s (record { place = i; slot = x; clears = true; full = false })) ≡ true
+    emptied-valid x e =
+        cleared-valid x false
+        (rw cleared-table (nobodys (freshTable (s .list)) (fresh-length (s .list)) (fresh-builder (s .list)) x e))

@@ -7,6 +7,7 @@ use native.Mathlib.Omega.{arith}
 use lib.ListN.{length, getD, drop, replicate}
 use lib.Dec.{leb}
 use borrow.Author.Tests.{le-leb, lt-leb}
+use Rattle.wire.specs.Size.{tableBytes}
 use Rattle.wire.specs.Run.{afterAll}
 use Rattle.wire.specs.Number.{word}
 use Rattle.table_view.specs.Layout.{endOf}
@@ -24,23 +25,23 @@ use Rattle.state.proofs.Sizes.{space-client, space-shared, laid-client,
 -- the list's entries up to place i are laid out in out
 pub record Laying (list : List (List ℕ)) (out : List ℕ) (i : ℕ) : Type 0 where
   pub at : i ≤ length list
-  pub long : length out ≡ 640
+  pub long : length out ≡ tableBytes
   pub ok : builder out ≡ true
   pub below : (j : ℕ) → i ≤ j → j < length list → lastKey out < attributeOf (getD list j []) .handle
-  pub fits : endOf out ≤ 640
+  pub fits : endOf out ≤ tableBytes
   pub total : endOf out + entriesSize (drop i list) ≡ tableSize list
   pub rest : afterAll bytesAfter out (clientsOf (drop i list)) ≡ freshTable list
 
-fresh-end : endOf (replicate 640 0) ≡ 4
+fresh-end : endOf (replicate tableBytes 0) ≡ 4
 unfolding word
 fresh-end = refl
 
-fresh-last : lastKey (replicate 640 0) ≡ 0
+fresh-last : lastKey (replicate tableBytes 0) ≡ 0
 unfolding lastKey word
 fresh-last = refl
 
 module _ (list : List (List ℕ)) (store : ℕ) (right : listOk list store ≡ true) where
-  pub none-laid : (out : List ℕ) → out ≡ replicate 640 0 → Laying list out 0
+  pub none-laid : (out : List ℕ) → out ≡ replicate tableBytes 0 → Laying list out 0
   unfolding freshTable
   none-laid out e =
       rw e (record {
@@ -54,10 +55,10 @@ module _ (list : List (List ℕ)) (store : ℕ) (right : listOk list store ≡ t
       })
 
   -- an entry that the table has no room for
-  pub no-room : (out : List ℕ) (i : ℕ) → Laying list out i → i < length list → 640 < endOf out + spaceOf (attributeOf (getD list i [])) → false ≡ leb (tableSize list) 640
-  no-room out i w h l = sym (lt-leb (tableSize list) 640 (omega (arith, w .total, size-turn list i h)))
+  pub no-room : (out : List ℕ) (i : ℕ) → Laying list out i → i < length list → tableBytes < endOf out + spaceOf (attributeOf (getD list i [])) → false ≡ leb (tableSize list) tableBytes
+  no-room out i w h l = sym (lt-leb (tableSize list) tableBytes (omega (arith, w .total, size-turn list i h)))
 
-  module _ (out : List ℕ) (i : ℕ) (w : Laying list out i) (h : i < length list) (entry-room : endOf out + spaceOf (attributeOf (getD list i [])) ≤ 640) where
+  module _ (out : List ℕ) (i : ℕ) (w : Laying list out i) (h : i < length list) (entry-room : endOf out + spaceOf (attributeOf (getD list i [])) ≤ tableBytes) where
     shared-laid : attributeOf (getD list i []) .client ≡ false → Laying list out (i + 1)
     shared-laid c =
         record {
@@ -102,8 +103,8 @@ module _ (list : List (List ℕ)) (store : ℕ) (right : listOk list store ≡ t
         by false c = rw (e ∙ laid-shared (attributeOf (getD list i [])) out c) (shared-laid c)
 
   -- all laid out: the table has room, and it is the fresh one
-  pub all-fits : (out : List ℕ) (i : ℕ) → Laying list out i → length list ≤ i → true ≡ leb (tableSize list) 640
-  all-fits out i w h = sym (le-leb (tableSize list) 640 (omega (arith, w .total, w .fits, size-over list i h)))
+  pub all-fits : (out : List ℕ) (i : ℕ) → Laying list out i → length list ≤ i → true ≡ leb (tableSize list) tableBytes
+  all-fits out i w h = sym (le-leb (tableSize list) tableBytes (omega (arith, w .total, w .fits, size-over list i h)))
 
   pub all-laid : (out : List ℕ) (i : ℕ) → Laying list out i → length list ≤ i → out ≡ freshTable list
   unfolding afterAll

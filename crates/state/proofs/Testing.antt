@@ -9,6 +9,7 @@ use native.Mathlib.Omega.{arith}
 use lib.ListN.{length, getD, take, drop, take-append-drop, length-take, length-drop, drop-of-length-le}
 use lib.Seq.{ext-getD, getD-take, drop-cons}
 use borrow.Author.Tests.{eqb-true}
+use Rattle.wire.specs.Size.{slotCount, tableBytes}
 use Rattle.wire.specs.Test.{both}
 use Rattle.wire.specs.Bytes.{zeros, alike}
 use Rattle.wire.proofs.Tests.{both-l, both-r, both-true, same-test, split}
@@ -45,8 +46,8 @@ both-head a = refl
 zeros-same : (a b : List ℕ) → zeros a ≡ true → zeros b ≡ true → length a ≡ length b → a ≡ b
 zeros-same a b p q e = zeros-all a p ∙ rw e (sym (zeros-all b q))
 
-module _ (fresh t : List ℕ) (s : Slot) (lf : length fresh ≡ 640) (lt : length t ≡ 640) (b : builder fresh ≡ true) where
-  end-fits : endOf fresh ≤ 640
+module _ (fresh t : List ℕ) (s : Slot) (lf : length fresh ≡ tableBytes) (lt : length t ≡ tableBytes) (b : builder fresh ≡ true) where
+  end-fits : endOf fresh ≤ tableBytes
   end-fits = omega (arith, fits fresh (is-table fresh b))
 
   rest-zero : zeros (drop (baseOf fresh) fresh) ≡ true
@@ -138,13 +139,13 @@ front-of fresh t n a b h =
     let e : take n t ≡ take n fresh = ext-getD 0 _ _ (m ∙ sym o) (λ j g. let i : j < n = omega arith in rw (getD-take n t j 0 i, getD-take n fresh j 0 i) (agrees-at fresh n 0 t h j (omega arith) (omega arith))) in
     rw e (alike-self (take n fresh))
 
-module _ (fresh : List ℕ) (row : List Slot) (ts : List (List ℕ)) (lf : length fresh ≡ 640) (b : builder fresh ≡ true) (lr : length row ≡ 8) (l8 : length ts ≡ 8)
+module _ (fresh : List ℕ) (row : List Slot) (ts : List (List ℕ)) (lf : length fresh ≡ tableBytes) (b : builder fresh ≡ true) (lr : length row ≡ slotCount) (l8 : length ts ≡ slotCount)
     (s : every sized ts ≡ true) where
-  long : (i : ℕ) → i < length ts → length (getD ts i []) ≡ 640
+  long : (i : ℕ) → i < length ts → length (getD ts i []) ≡ tableBytes
   unfolding sized
-  long i l = eqb-true (length (getD ts i [])) 640 (every-at sized ts s i l)
+  long i l = eqb-true (length (getD ts i [])) tableBytes (every-at sized ts s i l)
 
-  base-of : baseOf fresh ≤ 640
+  base-of : baseOf fresh ≤ tableBytes
   base-of = omega (arith, fits fresh (is-table fresh b))
 
   module _ (w : slotsOk fresh row ts ≡ true) where
@@ -164,11 +165,11 @@ module _ (fresh : List ℕ) (row : List Slot) (ts : List (List ℕ)) (lf : lengt
         every-by (agrees fresh (baseOf fresh) 0) ts
         (λ i l. agrees-by fresh (baseOf fresh) 0 _ (λ j p q. front-at _ fresh (baseOf fresh) (alike-eq _ _ (head i l)) j (omega arith)))
 
-    pub tails : every (agrees [] (640 - endOf fresh) (endOf fresh)) ts ≡ true
+    pub tails : every (agrees [] (tableBytes - endOf fresh) (endOf fresh)) ts ≡ true
     unfolding laidOut
     tails =
-        every-by (agrees [] (640 - endOf fresh) (endOf fresh)) ts
-        (λ i l. agrees-by [] (640 - endOf fresh) (endOf fresh) _ (λ j p q. from-zeros _ (endOf fresh) (both-r _ _ (both-r _ _ (laid i l))) j p))
+        every-by (agrees [] (tableBytes - endOf fresh) (endOf fresh)) ts
+        (λ i l. agrees-by [] (tableBytes - endOf fresh) (endOf fresh) _ (λ j p q. from-zeros _ (endOf fresh) (both-r _ _ (both-r _ _ (laid i l))) j p))
 
     pub values : every (λ t. valuesOk t (countOf fresh) 0) ts ≡ true
     unfolding laidOut accepts
@@ -194,7 +195,7 @@ module _ (fresh : List ℕ) (row : List Slot) (ts : List (List ℕ)) (lf : lengt
       by true e = sym h ∙ f e ∙ sym e
       by false e = sym e
 
-  module _ (f : every (agrees fresh (baseOf fresh) 0) ts ≡ true) (z : every (agrees [] (640 - endOf fresh) (endOf fresh)) ts ≡ true)
+  module _ (f : every (agrees fresh (baseOf fresh) 0) ts ≡ true) (z : every (agrees [] (tableBytes - endOf fresh) (endOf fresh)) ts ≡ true)
       (v : every (λ t. valuesOk t (countOf fresh) 0) ts ≡ true) where
     front : (i : ℕ) → i < length ts → alike (take (baseOf fresh) (getD ts i [])) (take (baseOf fresh) fresh) ≡ true
     front i l =
@@ -206,9 +207,9 @@ module _ (fresh : List ℕ) (row : List Slot) (ts : List (List ℕ)) (lf : lengt
         zeros-from (getD ts i []) (endOf fresh)
         (λ j h.
         ⊎-elim
-        (λ (k : j < 640). agrees-at [] (640 - endOf fresh) (endOf fresh) (getD ts i []) (every-at (agrees [] (640 - endOf fresh) (endOf fresh)) ts z i l) j h (omega arith))
-        (λ (k : 640 ≤ j). past (getD ts i []) j (omega (arith, long i l)))
-        (split j 640))
+        (λ (k : j < tableBytes). agrees-at [] (tableBytes - endOf fresh) (endOf fresh) (getD ts i []) (every-at (agrees [] (tableBytes - endOf fresh) (endOf fresh)) ts z i l) j h (omega arith))
+        (λ (k : tableBytes ≤ j). past (getD ts i []) j (omega (arith, long i l)))
+        (split j tableBytes))
 
     slot-by : (i : ℕ) → i < length ts → clearOk (baseOf fresh) (endOf fresh) (getD row i noSlot) (getD ts i []) ≡ true → (e : Bool) → isEmpty (getD row i noSlot .id) ≡ e → slotOk fresh (getD row i noSlot) (getD ts i []) ≡ true
     slot-by i l c true e =

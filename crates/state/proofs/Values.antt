@@ -8,6 +8,7 @@ use mathlib.Core.List.{List, []}
 use lib.ListN.{length, getD}
 use lib.Dec.{leb}
 use borrow.Author.Tests.{eqb-true}
+use Rattle.wire.specs.Size.{tableBytes}
 use Rattle.wire.specs.Test.{both}
 use Rattle.wire.specs.Number.{word}
 use Rattle.table_view.specs.Layout.{countOf, baseOf, endOf, varAt, offAt, nextAt, capAt}
@@ -20,11 +21,11 @@ use Rattle.state.specs.Tables.{every, sized, agrees}
 use Rattle.state.proofs.Columns.{every-at, every-by, every-same, every-both, agrees-at}
 
 -- a table that agrees with the fresh one up to its values has its index
-pub index-of : (fresh t : List ℕ) → endOf fresh ≤ 640 → sized t ≡ true → agrees fresh (baseOf fresh) 0 t ≡ true → SameIndex fresh t
+pub index-of : (fresh t : List ℕ) → endOf fresh ≤ tableBytes → sized t ≡ true → agrees fresh (baseOf fresh) 0 t ≡ true → SameIndex fresh t
 unfolding sized
 index-of fresh t e s a =
     record {
-      room = omega (arith, eqb-true (length t) 640 s);
+      room = omega (arith, eqb-true (length t) tableBytes s);
       bytes = λ j l. agrees-at fresh (baseOf fresh) 0 t a j (omega arith) (omega arith);
     }
 
@@ -43,7 +44,7 @@ module _ (fresh t : List ℕ) (x : SameIndex fresh t) (ok : accepts fresh ≡ tr
       (by-length t p (var-same fresh t x p h ∙ v) (omega (arith, e .room, off-same fresh t x p h, next-same fresh t x p h, two)))
 
 -- one value of all tables
-module _ (fresh : List ℕ) (ts : List (List ℕ)) (lf : length fresh ≡ 640) (ok : accepts fresh ≡ true) (s : every sized ts ≡ true)
+module _ (fresh : List ℕ) (ts : List (List ℕ)) (lf : length fresh ≡ tableBytes) (ok : accepts fresh ≡ true) (s : every sized ts ≡ true)
     (a : every (agrees fresh (baseOf fresh) 0) ts ≡ true) (p : ℕ) (h : p < countOf fresh) where
   index : (i : ℕ) → i < length ts → SameIndex fresh (getD ts i [])
   index i l =

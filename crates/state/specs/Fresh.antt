@@ -1,9 +1,10 @@
 -- The table that a list lays out, and a fresh hub (document 01, "Slots" and "Refusals of a call"). Assumes nothing.
 use Prim.Native.Nat.{ℕ, _+_}
-use mathlib.Core.Bool.{cond}
+use mathlib.Core.Bool.{Bool, cond}
 use mathlib.Core.List.{List, [], _∷_}
 use lib.ListN.{length, replicate}
 use lib.Dec.{leb, eqb}
+use Rattle.wire.specs.Size.{slotCount, tableBytes}
 use Rattle.wire.specs.Test.{both}
 use Rattle.wire.specs.Run.{afterAll}
 use Rattle.table_view.specs.Told.{Told, done, refused}
@@ -14,6 +15,7 @@ use Rattle.attribute.specs.Rules.{listOk}
 use Rattle.attribute.specs.declared.Attribute.{Attribute}
 use Rattle.peers.specs.Slots.{nobody}
 use Rattle.peers.specs.declared.Slot.{Slot}
+use Rattle.state.specs.State.{State, state}
 use Rattle.state.specs.declared.Opened.{Opened}
 use Rattle.state.specs.declared.Opened.the-variants.{Done, BadList, TooLong}
 
@@ -27,7 +29,7 @@ clientsOf (r ∷ rs) = cond (attributeOf r .client) (pushOf (attributeOf r) ∷ 
 
 -- the table that they lay out
 unfoldable pub freshTable : List (List ℕ) → List ℕ
-freshTable list = afterAll bytesAfter (replicate 640 0) (clientsOf list)
+freshTable list = afterAll bytesAfter (replicate tableBytes 0) (clientsOf list)
 
 -- how many bytes it takes: 4 for the header, and for each client value 4 in the index and its room
 unfoldable pub spaceOf : Attribute → ℕ
@@ -44,22 +46,29 @@ tableSize list = 4 + entriesSize list
 unfoldable pub entryLaid : List ℕ → Attribute → List ℕ
 entryLaid bs a = cond (a .client) (withEntry bs (a .handle) (a .cap) (a .variable)) bs
 
--- `new`: refusal 1 for a bad list, or for other than eight tables; then 6 where its table would exceed 640 bytes
+-- `new`: refusal 1 for a bad list, or for other than eight slots or tables; then 6 where its table would exceed 640 bytes
 abbrev pub toldOpened : Opened → Told
 toldOpened Done = done
 toldOpened BadList = refused 1
 toldOpened TooLong = refused 6
 
-unfoldable pub newTold : List (List ℕ) → ℕ → ℕ → Told
-newTold list store n =
-    cond (both (eqb n 8) (listOk list store)) (cond (leb (tableSize list) 640) done (refused 6)) (refused 1)
+unfoldable pub canOpen : State → Bool
+canOpen s =
+    both (eqb (length (s .row)) slotCount)
+    (both (eqb (length (s .tables)) slotCount) (listOk (s .list) (length (s .store))))
 
--- eight slots, all nobody's, and the fresh table for each
+abbrev pub tableFits : State → Bool
+tableFits s = leb (tableSize (s .list)) tableBytes
+
+unfoldable pub newTold : State → Told
+newTold s = cond (canOpen s) (cond (tableFits s) done (refused 6)) (refused 1)
+
+-- a fresh hub: eight slots, all nobody's, and the fresh table for each
 abbrev pub emptyRow : List Slot
-emptyRow = replicate 8 (record { id = nobody; connected = 0 })
+emptyRow = replicate slotCount (record { id = nobody; connected = 0 })
 
-unfoldable pub tablesNew : List (List ℕ) → ℕ → List (List ℕ) → List (List ℕ)
-tablesNew list store ts =
-    cond (both (eqb (length ts) 8) (listOk list store))
-    (cond (leb (tableSize list) 640) (replicate 8 (freshTable list)) ts)
-    ts
+abbrev pub freshState : List (List ℕ) → List ℕ → State
+freshState list store = state list store emptyRow (replicate slotCount (freshTable list))
+
+unfoldable pub newLeft : State → State
+newLeft s = cond (canOpen s) (cond (tableFits s) (freshState (s .list) (s .store)) s) s

@@ -1,3 +1,4 @@
+pub mod State
 pub mod Fresh
 pub mod Tables
 pub mod Valid

@@ -4,6 +4,7 @@ use mathlib.Core.Bool.{Bool, true, cond}
 use mathlib.Core.List.{List, [], _∷_}
 use lib.ListN.{length, getD, take, drop}
 use lib.Dec.{eqb}
+use Rattle.wire.specs.Size.{tableBytes}
 use Rattle.wire.specs.Test.{both}
 use Rattle.wire.specs.Bytes.{zeros}
 use Rattle.peers.specs.Identity.{isEmpty}
@@ -16,7 +17,7 @@ every p (t ∷ ts) = both (p t) (every p ts)
 
 -- it has its 640 bytes
 unfoldable pub sized : List ℕ → Bool
-sized t = eqb (length t) 640
+sized t = eqb (length t) tableBytes
 
 -- the n bytes from place j on are those of f, whose bytes past its end are zeros
 unfoldable pub agrees : List ℕ → ℕ → ℕ → List ℕ → Bool

@@ -4,6 +4,7 @@ use mathlib.Core.Bool.{Bool, true, false, cond}
 use mathlib.Core.List.{List, [], _∷_}
 use lib.ListN.{length, take, drop}
 use lib.Dec.{leb, eqb}
+use Rattle.wire.specs.Size.{slotCount, tableBytes, valueBytes}
 use Rattle.wire.specs.Test.{both}
 use Rattle.wire.specs.Bytes.{zeros, alike}
 use Rattle.table_view.specs.Layout.{baseOf, endOf}
@@ -11,6 +12,7 @@ use Rattle.table_view.specs.Rules.{accepts}
 use Rattle.attribute.specs.Rules.{listOk}
 use Rattle.peers.specs.Identity.{isEmpty}
 use Rattle.peers.specs.declared.Slot.{Slot}
+use Rattle.state.specs.State.{State}
 use Rattle.state.specs.Fresh.{tableSize, freshTable}
 use Rattle.state.specs.declared.Prepared.{Prepared}
 
@@ -30,15 +32,16 @@ slotsOk fresh (s ∷ ss) [] = false
 slotsOk fresh (s ∷ ss) (t ∷ ts) = both (slotOk fresh s t) (slotsOk fresh ss ts)
 
 -- list and store pass rule 1, and the list's table fits its 640 bytes; there are eight slots and tables, each right
-unfoldable pub valid : List (List ℕ) → ℕ → List Slot → List (List ℕ) → Bool
-valid list store row ts =
-    both (eqb (length ts) 8)
-    (both (listOk list store) (both (leb (tableSize list) 640) (slotsOk (freshTable list) row ts)))
+unfoldable pub valid : State → Bool
+valid s =
+    both (eqb (length (s .tables)) slotCount)
+    (both (listOk (s .list) (length (s .store)))
+    (both (leb (tableSize (s .list)) tableBytes) (slotsOk (freshTable (s .list)) (s .row) (s .tables))))
 
 -- prepared data fit 512 bytes, none under handle 0
 unfoldable pub recordOk : Prepared → Bool
-recordOk p = both (leb (p .len) 512) (cond (eqb (p .handle) 0) (eqb (p .len) 0) true)
+recordOk p = both (leb (p .len) valueBytes) (cond (eqb (p .handle) 0) (eqb (p .len) 0) true)
 
 -- the whole sentence: the link's prepared write too
-unfoldable pub validWith : List (List ℕ) → ℕ → List Slot → List (List ℕ) → Prepared → Bool
-validWith list store row ts p = both (recordOk p) (valid list store row ts)
+unfoldable pub validWith : State → Prepared → Bool
+validWith s p = both (recordOk p) (valid s)

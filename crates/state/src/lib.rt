@@ -2,12 +2,16 @@
 pub mod inner;
 mod tables;
 
-use peers::Identity;
-use peers::Slot;
+use wire::sizes::Record;
+use wire::sizes::SLOTS;
+use wire::sizes::SlotBytes;
+use wire::sizes::TABLE_SIZE;
+use wire::sizes::Table;
+use wire::sizes::VALUE_SIZE;
 ghost use mathlib.Core.Path.{_≡_};
-ghost use lib.ListN.{length};
+ghost use Rattle.state.specs.State.{lent};
 ghost use Rattle.state.specs.Valid.{recordOk, valid, validWith};
-ghost use Rattle.state.specs.Fresh.{toldOpened, newTold, tablesNew, emptyRow};
+ghost use Rattle.state.specs.Fresh.{toldOpened, newTold, newLeft};
 
 // A link's prepared write: its handle, 0 where there is none; where it starts; and how many bytes of it lie in the data beside it.
 #[repr(C)]
@@ -24,17 +28,11 @@ pub enum Opened {
     TooLong,
 }
 
-// A fresh row of slots, with the answer.
-pub struct Opening {
-    pub row: [Slot; 8],
-    pub answer: Opened,
-}
-
 // Whether a prepared write is valid: at most 512 bytes, and none under handle 0.
 pub fn is_record(p: Prepared) -> bool
     ensures { λ r. ⌜ r ≡ recordOk p ⌝ }
 {
-    if 512 < p.len {
+    if VALUE_SIZE < p.len as usize {
         return false;
     }
     if p.handle == 0 {
@@ -43,32 +41,37 @@ pub fn is_record(p: Prepared) -> bool
     true
 }
 
-// Whether list, row and tables are a valid state, with a store of so many bytes.
-pub fn is_valid(list: &[[u8; 32]], store: usize, row: [Slot; 8], tables: &[[u8; 640]]) -> bool
-    ensures { λ r. ⌜ r ≡ valid (now (list .entry)) store row (now (tables .entry)) ⌝ }
+// Whether what is lent is a valid state.
+pub fn is_valid(list: &[Record], store: &[u8], row: &[SlotBytes], tables: &[Table]) -> bool
+    ensures { λ r. let s = lent (now (list .entry)) (now (store .entry)) (now (row .entry)) (now (tables .entry)) in
+        ⌜ r ≡ valid s ⌝ }
 {
-    if tables.len() != 8 {
+    if row.len() != SLOTS {
+        return false;
+    }
+    if tables.len() != SLOTS {
         return false;
     }
     if !attribute::rules::is_list(list, store) {
         return false;
     }
-    let mut fresh = [0u8; 640];
+    let mut fresh = [0u8; TABLE_SIZE];
     if !inner::lay_out(list, store, &mut fresh) {
         return false;
     }
     inner::slots_ok(row, tables, &fresh)
 }
 
-// Whether they are, with a link's prepared write: the whole of a state that a request meets.
+// Whether it is, with a link's prepared write: the whole of a state that a request meets.
 pub fn is_valid_with(
-    list: &[[u8; 32]],
-    store: usize,
-    row: [Slot; 8],
-    tables: &[[u8; 640]],
+    list: &[Record],
+    store: &[u8],
+    row: &[SlotBytes],
+    tables: &[Table],
     p: Prepared,
 ) -> bool
-    ensures { λ r. ⌜ r ≡ validWith (now (list .entry)) store row (now (tables .entry)) p ⌝ }
+    ensures { λ r. let s = lent (now (list .entry)) (now (store .entry)) (now (row .entry)) (now (tables .entry)) in
+        ⌜ r ≡ validWith s p ⌝ }
 {
     if !is_record(p) {
         return false;
@@ -76,39 +79,26 @@ pub fn is_valid_with(
     is_valid(list, store, row, tables)
 }
 
-// A fresh hub from a list, with a store of so many bytes: eight empty slots, each with the list's fresh table.
-pub fn new(list: &[[u8; 32]], store: usize, tables: &mut [[u8; 640]]) -> Opening
-    ensures { λ r. ⌜ (toldOpened (r .answer) ≡ newTold (now (list .entry)) store (length (now (tables .entry)))) × (r .row ≡ emptyRow) × (now (tables .exit) ≡ tablesNew (now (list .entry)) store (now (tables .entry))) ⌝ }
+// A fresh hub from a list and a store: eight empty slots, each with the list's fresh table.
+pub fn new(list: &[Record], store: &[u8], row: &mut [SlotBytes], tables: &mut [Table]) -> Opened
+    ensures { λ r. let s = lent (now (list .entry)) (now (store .entry)) (now (row .entry)) (now (tables .entry)) in
+        ⌜ (toldOpened r ≡ newTold s)
+        × (lent (now (list .entry)) (now (store .entry)) (now (row .exit)) (now (tables .exit)) ≡ newLeft s) ⌝ }
 {
-    let addr = [0u8; 6];
-    let nobody = Identity { kind: 0, addr };
-    let empty = Slot {
-        id: nobody,
-        connected: 0,
-    };
-    let row = [empty; 8];
-    if tables.len() != 8 {
-        return Opening {
-            row,
-            answer: Opened::BadList,
-        };
+    if row.len() != SLOTS {
+        return Opened::BadList;
+    }
+    if tables.len() != SLOTS {
+        return Opened::BadList;
     }
     if !attribute::rules::is_list(list, store) {
-        return Opening {
-            row,
-            answer: Opened::BadList,
-        };
+        return Opened::BadList;
     }
-    let mut fresh = [0u8; 640];
+    let mut fresh = [0u8; TABLE_SIZE];
     if !inner::lay_out(list, store, &mut fresh) {
-        return Opening {
-            row,
-            answer: Opened::TooLong,
-        };
+        return Opened::TooLong;
     }
     inner::fill(tables, fresh);
-    Opening {
-        row,
-        answer: Opened::Done,
-    }
+    inner::empty(row);
+    Opened::Done
 }

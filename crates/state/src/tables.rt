@@ -6,6 +6,7 @@ ghost use mathlib.Core.List.{[]};
 ghost use Prim.Native.Nat.{_+_, _-_, _≤_, _<_};
 ghost use lib.ListN.{length, getD};
 ghost use lib.Dec.{eqb, leb};
+ghost use Rattle.wire.specs.Size.{slotCount, tableBytes};
 ghost use Rattle.wire.specs.Number.{word};
 ghost use Rattle.table_view.specs.Layout.{countOf, baseOf};
 ghost use Rattle.table_view.specs.Rules.{valueOk, valuesOk};
@@ -13,6 +14,8 @@ ghost use Rattle.table_builder.specs.Push.{builder};
 ghost use Rattle.state.specs.Tables.{every, sized, agrees};
 use table_view::Place;
 use table_view::inner as view;
+use wire::sizes::TABLE_SIZE;
+use wire::sizes::Table;
 
 // 0 where byte j is f.
 fn differ(t: &[u8], j: usize, f: u8) -> u8
@@ -23,8 +26,8 @@ fn differ(t: &[u8], j: usize, f: u8) -> u8
 }
 
 // 0 where byte j of every table is f. It also tells, for callers, that a table has 640 bytes.
-fn column(tables: &[[u8; 640]], j: usize, f: u8) -> u8
-    requires { ⌜ (length (now tables) ≡ 8) × (j < 640) ⌝ }
+fn column(tables: &[Table], j: usize, f: u8) -> u8
+    requires { ⌜ (length (now tables) ≡ slotCount) × (j < tableBytes) ⌝ }
     ensures { λ r. ⌜ (eqb r 0 ≡ every (λ t. eqb (getD t j 0) f) (now (tables .entry))) × (every sized (now (tables .entry)) ≡ true) ⌝ }
 {
     differ(&tables[0], j, f)
@@ -38,8 +41,8 @@ fn column(tables: &[[u8; 640]], j: usize, f: u8) -> u8
 }
 
 // Whether the bytes of a part are zeros in every table.
-fn zero_part(tables: &[[u8; 640]], from: usize, to: usize) -> bool
-    requires { ⌜ (length (now tables) ≡ 8) × (from ≤ to) × (to ≤ 640) ⌝ }
+fn zero_part(tables: &[Table], from: usize, to: usize) -> bool
+    requires { ⌜ (length (now tables) ≡ slotCount) × (from ≤ to) × (to ≤ tableBytes) ⌝ }
     ensures { λ r. ⌜ r ≡ every (agrees [] (to - from) from) (now (tables .entry)) ⌝ }
 {
     let mut acc: u8 = 0;
@@ -52,8 +55,8 @@ fn zero_part(tables: &[[u8; 640]], from: usize, to: usize) -> bool
 }
 
 // Whether they are the fresh table's.
-fn same_part(tables: &[[u8; 640]], fresh: &[u8; 640], from: usize, to: usize) -> bool
-    requires { ⌜ (length (now tables) ≡ 8) × (from ≤ to) × (to ≤ 640) ⌝ }
+fn same_part(tables: &[Table], fresh: &Table, from: usize, to: usize) -> bool
+    requires { ⌜ (length (now tables) ≡ slotCount) × (from ≤ to) × (to ≤ tableBytes) ⌝ }
     ensures { λ r. ⌜ (r ≡ every (agrees (now (fresh .entry)) (to - from) from) (now (tables .entry))) × (from < to → every sized (now (tables .entry)) ≡ true) ⌝ }
 {
     let mut acc: u8 = 0;
@@ -67,23 +70,23 @@ fn same_part(tables: &[[u8; 640]], fresh: &[u8; 640], from: usize, to: usize) ->
 
 // Whether every table has zeros from a place on. A part of 16 bytes or more is tested in two that overlap, 16 bytes and then as many as
 // make whole turns of the loop: what would be left over costs more than it holds.
-pub fn zero_from(tables: &[[u8; 640]], from: usize) -> bool
-    requires { ⌜ (length (now tables) ≡ 8) × (from ≤ 640) ⌝ }
-    ensures { λ r. ⌜ r ≡ every (agrees [] (640 - from) from) (now (tables .entry)) ⌝ }
+pub fn zero_from(tables: &[Table], from: usize) -> bool
+    requires { ⌜ (length (now tables) ≡ slotCount) × (from ≤ tableBytes) ⌝ }
+    ensures { λ r. ⌜ r ≡ every (agrees [] (tableBytes - from) from) (now (tables .entry)) ⌝ }
 {
-    let n = 640 - from;
+    let n = TABLE_SIZE - from;
     if n < 16 {
-        return zero_part(tables, from, 640);
+        return zero_part(tables, from, TABLE_SIZE);
     }
     if !zero_part(tables, from, from + 16) {
         return false;
     }
-    zero_part(tables, from + n % 16, 640)
+    zero_part(tables, from + n % 16, TABLE_SIZE)
 }
 
 // Whether every table has the fresh one's first n bytes.
-pub fn same_front(tables: &[[u8; 640]], fresh: &[u8; 640], n: usize) -> bool
-    requires { ⌜ (length (now tables) ≡ 8) × (n ≤ 640) ⌝ }
+pub fn same_front(tables: &[Table], fresh: &Table, n: usize) -> bool
+    requires { ⌜ (length (now tables) ≡ slotCount) × (n ≤ tableBytes) ⌝ }
     ensures { λ r. ⌜ (r ≡ every (agrees (now (fresh .entry)) n 0) (now (tables .entry))) × (0 < n → every sized (now (tables .entry)) ≡ true) ⌝ }
 {
     if n < 16 {
@@ -96,8 +99,8 @@ pub fn same_front(tables: &[[u8; 640]], fresh: &[u8; 640], n: usize) -> bool
 }
 
 // Whether the number at a place is at most n in every table.
-fn at_most(tables: &[[u8; 640]], at: usize, n: usize) -> bool
-    requires { ⌜ (length (now tables) ≡ 8) × (at + 1 < 640) ⌝ }
+fn at_most(tables: &[Table], at: usize, n: usize) -> bool
+    requires { ⌜ (length (now tables) ≡ slotCount) × (at + 1 < tableBytes) ⌝ }
     ensures { λ r. ⌜ r ≡ every (λ t. leb (word t at) n) (now (tables .entry)) ⌝ }
 {
     let mut k = 0;
@@ -111,8 +114,8 @@ fn at_most(tables: &[[u8; 640]], at: usize, n: usize) -> bool
 }
 
 // Whether the value at a place of the index is right in every table: a variable one's length is within its capacity.
-fn value_ok(tables: &[[u8; 640]], fresh: &[u8; 640], p: Place) -> bool
-    requires { ⌜ (length (now tables) ≡ 8) × (length (now fresh) ≡ 640) × (builder (now fresh) ≡ true) × (p .0 < countOf (now fresh)) ⌝ }
+fn value_ok(tables: &[Table], fresh: &Table, p: Place) -> bool
+    requires { ⌜ (length (now tables) ≡ slotCount) × (length (now fresh) ≡ tableBytes) × (builder (now fresh) ≡ true) × (p .0 < countOf (now fresh)) ⌝ }
     requires { ⌜ (every sized (now tables) ≡ true) × (every (agrees (now fresh) (baseOf (now fresh)) 0) (now tables) ≡ true) ⌝ }
     ensures { λ r. ⌜ r ≡ every (λ t. valueOk t (p .0)) (now (tables .entry)) ⌝ }
 {
@@ -124,8 +127,8 @@ fn value_ok(tables: &[[u8; 640]], fresh: &[u8; 640], p: Place) -> bool
 }
 
 // Whether all values are.
-pub fn values_ok(tables: &[[u8; 640]], fresh: &[u8; 640]) -> bool
-    requires { ⌜ (length (now tables) ≡ 8) × (length (now fresh) ≡ 640) × (builder (now fresh) ≡ true) ⌝ }
+pub fn values_ok(tables: &[Table], fresh: &Table) -> bool
+    requires { ⌜ (length (now tables) ≡ slotCount) × (length (now fresh) ≡ tableBytes) × (builder (now fresh) ≡ true) ⌝ }
     requires { ⌜ (every sized (now tables) ≡ true) × (every (agrees (now fresh) (baseOf (now fresh)) 0) (now tables) ≡ true) ⌝ }
     ensures { λ r. ⌜ r ≡ every (λ t. valuesOk t (countOf (now (fresh .entry))) 0) (now (tables .entry)) ⌝ }
 {

@@ -4,7 +4,6 @@ use mathlib.Core.Path.{_≡_, refl, sym, ap, _∙_}
 use mathlib.Core.Bool.{Bool, true, false, cond}
 use mathlib.Core.List.{List, []}
 use Prim.Native.Nat.{ℕ, _+_, _<_}
-use native.Mathlib.Omega.{arith}
 use lib.ListN.{length, getD, set}
 use lib.Dec.{ltb}
 use Rattle.wire.specs.First.{first}
@@ -29,7 +28,7 @@ use Rattle.attribute.specs.declared.Access.the-variants.{Granted, Denied}
 use Rattle.model.specs.Value.{writeRule, itemWrite, ownWrite}
 use Rattle.model.specs.View.{tableAt}
 use Rattle.model.specs.Change.{ownTables}
-use Rattle.storing.specs.Ready.{SlotReady, accessBy}
+use Rattle.storing.specs.Ready.{accessBy}
 
 -- the answer of an accepted table, by where the lookup comes to
 module _ (bs : List ℕ) (ok : accepts bs ≡ true) (h off n : ℕ) where
@@ -68,10 +67,3 @@ module _ (ts : List (List ℕ)) (slot : Found) (h off : ℕ) (d : List ℕ) wher
   in-slot k e ok r t p q =
       rw e
       (p ∙ own-write (getD ts k []) ok h off (length d), ap (λ (x : List ℕ). set ts k x) (q ∙ own-after (getD ts k []) ok h off d))
-
--- the slot of a ready state
-pub inside-slot : (ts : List (List ℕ)) (slot : Found) → SlotReady ts slot → (k : ℕ) → slot ≡ At k → k < length ts
-inside-slot ts slot r k e = omega (arith, r .inside k e, r .tables .eight)
-
-pub slot-read : (ts : List (List ℕ)) (slot : Found) → SlotReady ts slot → (k : ℕ) → slot ≡ At k → accepts (getD ts k []) ≡ true
-slot-read ts slot r k e = r .tables .read k (r .inside k e)

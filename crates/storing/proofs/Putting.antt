@@ -9,6 +9,7 @@ use lib.ListN.{length, getD, set}
 use lib.Seq.{sets}
 use lib.Dec.{ltb}
 use borrow.Author.Tests.{lt-ltb, le-ltb, ltb-false}
+use Rattle.wire.specs.Size.{valueBytes}
 use Rattle.attribute.specs.Record.{attributeOf, withLength}
 use Rattle.attribute.specs.Rules.{listOk}
 use Rattle.attribute.specs.declared.Attribute.{Attribute}
@@ -47,7 +48,7 @@ has-room len cap off n h =
 -- n bytes at an offset lie within the value, and that within the store
 pub record Room (a : Attribute) (store off n : ℕ) : Type 0 where
   pub value : off + n ≤ a .cap
-  pub cap : a .cap ≤ 512
+  pub cap : a .cap ≤ valueBytes
   pub inside : a .start + a .cap ≤ store
 
 pub room : (list : List (List ℕ)) (store i : ℕ) → i < length list → listOk list store ≡ true → attributeOf (getD list i []) .client ≡ false → (a : Attribute) → a ≡ attributeOf (getD list i []) → (off n : ℕ) → writeRule (a .len) (a .cap) off n ≡ Granted → Room a store off n

@@ -9,6 +9,7 @@ use native.Mathlib.Omega.{arith}
 use lib.ListN.{length, getD, set, take, drop, length-set, length-drop}
 use lib.Seq.{sets, length-sets, getD-set-same, getD-set-other}
 use borrow.Author.Tests.{lt-ltb, le-ltb}
+use Rattle.wire.specs.Size.{recordBytes}
 use Rattle.wire.specs.Number.{wordBytes}
 use Rattle.wire.specs.declared.Found.{Found}
 use Rattle.wire.proofs.Tests.{split}
@@ -22,8 +23,9 @@ use Rattle.attribute.specs.declared.Access.{Access}
 use Rattle.attribute.specs.declared.Access.the-variants.{Granted, Denied}
 use Rattle.attribute.proofs.Shape.{shared, apart}
 use Rattle.attribute.proofs.Kept.{fields-kept, known-kept}
+use Rattle.state.specs.State.{State}
 use Rattle.model.specs.Value.{sharedItem, writeRule}
-use Rattle.model.specs.Change.{Lent, ifGranted, lengthPut, sharedList, sharedStore, putAt}
+use Rattle.model.specs.Change.{ifGranted, lengthPut, sharedList, sharedStore, putAt}
 use Rattle.storing.proofs.Putting.{has-room}
 use Rattle.storing.proofs.Writing.{item-length}
 
@@ -55,7 +57,7 @@ same-size n (r ∷ rs) zero (suc k) = refl
 same-size n (r ∷ rs) (suc i) zero = refl
 same-size n (r ∷ rs) (suc i) (suc k) = same-size n rs i k
 
-same-entry : (n : ℕ) (list : List (List ℕ)) (i k : ℕ) → length (getD list i []) ≡ 32 → entryOf (getD (set list i (withLength (getD list i []) n)) k []) ≡ entryOf (getD list k [])
+same-entry : (n : ℕ) (list : List (List ℕ)) (i k : ℕ) → length (getD list i []) ≡ recordBytes → entryOf (getD (set list i (withLength (getD list i []) n)) k []) ≡ entryOf (getD list k [])
 same-entry n [] i k l = refl
 same-entry n (r ∷ rs) zero zero l = known-kept r n l
 same-entry n (r ∷ rs) zero (suc k) l = refl
@@ -66,7 +68,7 @@ by-kind : (t : Bool) → (t ≡ true) ⊎ (t ≡ false)
 by-kind true = inl refl
 by-kind false = inr refl
 
-module _ (s : Lent) (ok : listOk (s .list) (length (s .store)) ≡ true) (records : (k : ℕ) → k < length (s .list) → length (getD (s .list) k []) ≡ 32)
+module _ (s : State) (ok : listOk (s .list) (length (s .store)) ≡ true) (records : (k : ℕ) → k < length (s .list) → length (getD (s .list) k []) ≡ recordBytes)
     (slot : Found) (i : ℕ) (l : i < length (s .list)) (off : ℕ) (d : List ℕ) where
   -- the value that is written acts as an item of a plain list
   pub item-put : attributeOf (getD (s .list) i []) .client ≡ false
@@ -149,6 +151,6 @@ module _ (s : Lent) (ok : listOk (s .list) (length (s .store)) ≡ true) (record
   pub put-count : length (putAt s slot i off d .list) ≡ length (s .list)
   put-count = by-list (λ x. length x ≡ length (s .list)) refl (length-set (s .list) i _)
 
-  pub put-records : (k : ℕ) → k < length (putAt s slot i off d .list) → length (getD (putAt s slot i off d .list) k []) ≡ 32
+  pub put-records : (k : ℕ) → k < length (putAt s slot i off d .list) → length (getD (putAt s slot i off d .list) k []) ≡ recordBytes
   put-records k h =
       by-list (λ x. length (getD x k []) ≡ length (getD (s .list) k [])) refl (same-size (off + length d) (s .list) i k) ∙ records k (omega (arith, put-count))

@@ -17,10 +17,12 @@ use Rattle.attribute.specs.declared.Link.{Link}
 use Rattle.attribute.specs.declared.Access.{Access}
 use Rattle.attribute.specs.declared.Access.the-variants.{Granted, Denied}
 use Rattle.attribute.proofs.Shape.{shared}
+use Rattle.state.specs.State.{Becomes}
 use Rattle.model.specs.Value.{sharedItem, atValue, ownWrite, writeOf}
 use Rattle.model.specs.View.{Seen, seenBy, seenAll, tableAt, writeAt}
-use Rattle.model.specs.Change.{lent, Left, ownTables, putAt, written}
+use Rattle.model.specs.Change.{ownTables, putAt, written}
 use Rattle.model.proofs.Looking.{seen-at, seen-nowhere}
+use Rattle.model.proofs.States.{same-state}
 use Rattle.storing.proofs.Putting.{Put}
 
 -- a shared value has as many bytes as its entry says
@@ -38,36 +40,34 @@ second t x y e = rw e
 -- by place
 module _ (list : List (List ℕ)) (store : List ℕ) (ts : List (List ℕ)) (slot : Found) (i off : ℕ) (d : List ℕ) (a : Attribute) (is : a ≡ attributeOf (getD list i [])) where
   pub own-put : a .client ≡ true → (r : Access) (ts′ : List (List ℕ)) → r ≡ ownWrite (tableAt ts slot) (a .handle) off (length d) → ts′ ≡ ownTables ts slot (a .handle) off d
-      → (r ≡ writeOf store (tableAt ts slot) (attributeOf (getD list i [])) off (length d)) × Left (putAt (lent list store ts) slot i off d) list store ts′
+      → (r ≡ writeOf store (tableAt ts slot) (attributeOf (getD list i [])) off (length d)) × Becomes (λ s. putAt s slot i off d) list store ts list store ts′
   unfolding writeOf atValue putAt
   own-put t r ts′ p q =
       let u = rw is at t in
       let v = rw is at p in
       let w = rw is at q in
-      rw u (v, record { list-is = refl; store-is = refl; tables-are = w })
+      rw u (v, λ row. same-state row refl refl w)
 
   pub shared-put : i < length list → listOk list (length store) ≡ true → a .client ≡ false → (r : Access) (list′ : List (List ℕ)) (store′ : List ℕ)
       → Put list store i off d r list′ store′
-      → (r ≡ writeOf store (tableAt ts slot) (attributeOf (getD list i [])) off (length d)) × Left (putAt (lent list store ts) slot i off d) list′ store′ ts
+      → (r ≡ writeOf store (tableAt ts slot) (attributeOf (getD list i [])) off (length d)) × Becomes (λ s. putAt s slot i off d) list store ts list′ store′ ts
   unfolding writeOf atValue sharedItem putAt
   shared-put l ok t r list′ store′ p =
       let u = rw is at t in
       let m = item-length list store ok i l u in (
         p .0 ∙ rw (u, m),
-        record {
-          list-is = p .1 ∙ second (attributeOf (getD list i []) .client) _ _ u;
-          store-is = p .2 ∙ second (attributeOf (getD list i []) .client) _ _ u;
-          tables-are = second (attributeOf (getD list i []) .client) _ _ u;
-        },
+        λ row.
+            same-state row (p .1 ∙ second (attributeOf (getD list i []) .client) _ _ u) (p .2 ∙ second (attributeOf (getD list i []) .client) _ _ u)
+            (second (attributeOf (getD list i []) .client) _ _ u),
       )
 
 -- by handle
 module _ (link : Link) (list : List (List ℕ)) (store : List ℕ) (ts : List (List ℕ)) (slot : Found) (h off : ℕ) (d : List ℕ) where
   pub not-listed : placeOf list h ≡ Nothing
-      → (Denied 0x0A ≡ writeAt h off (length d) (seenAll link list store (tableAt ts slot))) × Left (written link (lent list store ts) slot h off d) list store ts
+      → (Denied 0x0A ≡ writeAt h off (length d) (seenAll link list store (tableAt ts slot))) × Becomes (λ s. written link s slot h off d) list store ts list store ts
   unfolding writeAt
   not-listed e =
-      (sym (seen-nowhere link list store (tableAt ts slot) h (λ (s : Seen). s .write off (length d)) (Denied 0x0A) e), rw e (record { list-is = refl; store-is = refl; tables-are = refl }))
+      (sym (seen-nowhere link list store (tableAt ts slot) h (λ (s : Seen). s .write off (length d)) (Denied 0x0A) e), rw e (λ row. refl))
 
   module _ (i : ℕ) (e : placeOf list h ≡ At i) where
     at-place : writeAt h off (length d) (seenAll link list store (tableAt ts slot)) ≡ seenBy link store (tableAt ts slot) (getD list i []) .write off (length d)
@@ -75,12 +75,12 @@ module _ (link : Link) (list : List (List ℕ)) (store : List ℕ) (ts : List (L
     at-place = seen-at link list store (tableAt ts slot) h (λ (s : Seen). s .write off (length d)) (Denied 0x0A) i e
 
     pub not-met : (c : ℕ) → mayWrite (attributeOf (getD list i [])) link ≡ Denied c
-        → (Denied c ≡ writeAt h off (length d) (seenAll link list store (tableAt ts slot))) × Left (written link (lent list store ts) slot h off d) list store ts
+        → (Denied c ≡ writeAt h off (length d) (seenAll link list store (tableAt ts slot))) × Becomes (λ s. written link s slot h off d) list store ts list store ts
     unfolding seenBy
-    not-met c m = (sym (at-place ∙ rw m), rw (e, m) (record { list-is = refl; store-is = refl; tables-are = refl }))
+    not-met c m = (sym (at-place ∙ rw m), rw (e, m) (λ row. refl))
 
     pub met : mayWrite (attributeOf (getD list i [])) link ≡ Granted → (r : Access) (list′ : List (List ℕ)) (store′ : List ℕ) (ts′ : List (List ℕ))
-        → (r ≡ writeOf store (tableAt ts slot) (attributeOf (getD list i [])) off (length d)) × Left (putAt (lent list store ts) slot i off d) list′ store′ ts′
-        → (r ≡ writeAt h off (length d) (seenAll link list store (tableAt ts slot))) × Left (written link (lent list store ts) slot h off d) list′ store′ ts′
+        → (r ≡ writeOf store (tableAt ts slot) (attributeOf (getD list i [])) off (length d)) × Becomes (λ s. putAt s slot i off d) list store ts list′ store′ ts′
+        → (r ≡ writeAt h off (length d) (seenAll link list store (tableAt ts slot))) × Becomes (λ s. written link s slot h off d) list store ts list′ store′ ts′
     unfolding seenBy
     met m r list′ store′ ts′ p = (p .0 ∙ sym (at-place ∙ rw m), rw (e, m) (p .1))

@@ -3,6 +3,7 @@ use Prim.Native.Nat.{ℕ, _<_}
 use mathlib.Core.Path.{_≡_}
 use mathlib.Core.Bool.{true}
 use mathlib.Core.List.{List}
+use Rattle.wire.specs.Size.{slotCount}
 use Rattle.wire.specs.declared.Found.{Found}
 use Rattle.wire.specs.declared.Found.the-variants.{At}
 use Rattle.table_view.specs.declared.Outcome.{Outcome}
@@ -15,7 +16,7 @@ use Rattle.peers.specs.Slots.{Tables}
 -- the tables are eight that the reading rules accept, and a slot is one of them
 pub record SlotReady (ts : List (List ℕ)) (slot : Found) : Type 0 where
   pub tables : Tables ts
-  pub inside : (k : ℕ) → slot ≡ At k → k < 8
+  pub inside : (k : ℕ) → slot ≡ At k → k < slotCount
 
 pub record Ready (list : List (List ℕ)) (store : ℕ) (ts : List (List ℕ)) (slot : Found) : Type 0 where
   pub right : listOk list store ≡ true

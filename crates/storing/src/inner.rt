@@ -7,15 +7,18 @@ ghost use Prim.Native.Nat.{_^_, _<_};
 ghost use lib.ListN.{length, getD};
 ghost use Rattle.attribute.specs.Record.{attributeOf};
 ghost use Rattle.attribute.specs.Rules.{listOk};
+ghost use Rattle.state.specs.State.{Becomes};
 ghost use Rattle.model.specs.Value.{writeRule, writeOf, ownWrite};
 ghost use Rattle.model.specs.View.{tableAt, seenAll, writeAt};
-ghost use Rattle.model.specs.Change.{lent, Left, sharedList, sharedStore, ownTables, putAt, written};
+ghost use Rattle.model.specs.Change.{sharedList, sharedStore, ownTables, putAt, written};
 ghost use Rattle.storing.specs.Ready.{SlotReady, Ready, accessBy};
 use attribute::Access;
 use attribute::Link;
 use table_view::Key;
 use table_view::Outcome;
 use wire::Found;
+use wire::sizes::Record;
+use wire::sizes::Table;
 
 // Whether n bytes go in at an offset of a value of `len` bytes that can hold `cap`.
 fn rule(len: u16, cap: u16, offset: usize, n: usize) -> Access
@@ -32,7 +35,7 @@ fn rule(len: u16, cap: u16, offset: usize, n: usize) -> Access
 }
 
 // Writes d at an offset of the shared value at place i, and sets the length of a variable one.
-fn put_shared(list: &mut [[u8; 32]], store: &mut [u8], i: usize, offset: usize, d: &[u8]) -> Access
+fn put_shared(list: &mut [Record], store: &mut [u8], i: usize, offset: usize, d: &[u8]) -> Access
     requires { ⌜ (i < length (now list)) × (listOk (now list) (length (now store)) ≡ true) × (attributeOf (getD (now list) i []) .client ≡ false) ⌝ }
     ensures { λ r. ⌜ (r ≡ writeRule (attributeOf (getD (now (list .entry)) i []) .len) (attributeOf (getD (now (list .entry)) i []) .cap) offset (length (now (d .entry))))
         × (now (list .exit) ≡ sharedList (now (list .entry)) i (attributeOf (getD (now (list .entry)) i [])) offset (length (now (d .entry))))
@@ -63,7 +66,7 @@ fn as_access(w: Outcome) -> Access
 }
 
 // Writes d at an offset of the client value under a handle, in the table of a slot.
-fn put_own(tables: &mut [[u8; 640]], slot: Found, handle: u16, offset: usize, d: &[u8]) -> Access
+fn put_own(tables: &mut [Table], slot: Found, handle: u16, offset: usize, d: &[u8]) -> Access
     requires { ⌜ SlotReady (now tables) slot ⌝ }
     ensures { λ r. ⌜ (r ≡ ownWrite (tableAt (now (tables .entry)) slot) handle offset (length (now (d .entry))))
         × (now (tables .exit) ≡ ownTables (now (tables .entry)) slot handle offset (now (d .entry))) ⌝ }
@@ -76,9 +79,9 @@ fn put_own(tables: &mut [[u8; 640]], slot: Found, handle: u16, offset: usize, d:
 
 // Writes d at an offset of the value of the entry at place i, whoever asks. `slot` is the writing peer's.
 pub fn put_at(
-    list: &mut [[u8; 32]],
+    list: &mut [Record],
     store: &mut [u8],
-    tables: &mut [[u8; 640]],
+    tables: &mut [Table],
     slot: Found,
     i: usize,
     offset: usize,
@@ -86,7 +89,7 @@ pub fn put_at(
 ) -> Access
     requires { ⌜ (i < length (now list)) × Ready (now list) (length (now store)) (now tables) slot ⌝ }
     ensures { λ r. ⌜ (r ≡ writeOf (now (store .entry)) (tableAt (now (tables .entry)) slot) (attributeOf (getD (now (list .entry)) i [])) offset (length (now (d .entry))))
-        × Left (putAt (lent (now (list .entry)) (now (store .entry)) (now (tables .entry))) slot i offset (now (d .entry))) (now (list .exit)) (now (store .exit)) (now (tables .exit)) ⌝ }
+        × Becomes (λ s. putAt s slot i offset (now (d .entry))) (now (list .entry)) (now (store .entry)) (now (tables .entry)) (now (list .exit)) (now (store .exit)) (now (tables .exit)) ⌝ }
 {
     let a = attribute::inner::decode(&list[i]);
     if a.client {
@@ -97,9 +100,9 @@ pub fn put_at(
 
 // Writes d at an offset of the value under a handle, for a link.
 pub fn write(
-    list: &mut [[u8; 32]],
+    list: &mut [Record],
     store: &mut [u8],
-    tables: &mut [[u8; 640]],
+    tables: &mut [Table],
     slot: Found,
     link: Link,
     handle: u16,
@@ -108,7 +111,7 @@ pub fn write(
 ) -> Access
     requires { ⌜ Ready (now list) (length (now store)) (now tables) slot ⌝ }
     ensures { λ r. ⌜ (r ≡ writeAt handle offset (length (now (d .entry))) (seenAll link (now (list .entry)) (now (store .entry)) (tableAt (now (tables .entry)) slot)))
-        × Left (written link (lent (now (list .entry)) (now (store .entry)) (now (tables .entry))) slot handle offset (now (d .entry))) (now (list .exit)) (now (store .exit)) (now (tables .exit)) ⌝ }
+        × Becomes (λ s. written link s slot handle offset (now (d .entry))) (now (list .entry)) (now (store .entry)) (now (tables .entry)) (now (list .exit)) (now (store .exit)) (now (tables .exit)) ⌝ }
 {
     let Found::At(i) = attribute::walk::find_listed(list, handle) else {
         return Access::Denied(0x0A);

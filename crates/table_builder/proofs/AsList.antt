@@ -7,6 +7,7 @@ use Prim.Native.Nat.{ℕ, _+_}
 use native.Mathlib.Omega.{arith}
 use lib.ListN.{length, replicate}
 use lib.Dec.{leb}
+use Rattle.wire.specs.Size.{tableBytes}
 use Rattle.wire.specs.Run.{afterAll, toldAll}
 use Rattle.wire.specs.Number.{word}
 use Rattle.table_view.specs.Layout.{endOf}
@@ -31,13 +32,13 @@ size-more (y ∷ ys) x = omega (arith, size-more ys x)
 
 -- bytes that hold a list, each value where the one before it ends
 pub record Holds (bs : List ℕ) (xs : List Item) : Type 0 where
-  pub long : length bs ≡ 640
+  pub long : length bs ≡ tableBytes
   pub ok : builder bs ≡ true
   pub reads : view bs ≡ xs
   pub end : endOf bs ≡ 4 + sizeOf xs
   pub last : lastKey bs ≡ lastOf 0 xs
 
-pub fresh : Holds (replicate 640 0) []
+pub fresh : Holds (replicate tableBytes 0) []
 unfolding word itemsFrom sizeOf lastKey lastOf
 fresh = record { long = refl; ok = fresh-builder; reads = refl; end = refl; last = refl }
 
@@ -46,7 +47,7 @@ abbrev fits : List Item → Push → Bool
 fits xs p = entryFits (lastOf 0 xs) (p .key) (p .size)
 
 abbrev has-room : List Item → Push → Bool
-has-room xs p = leb (4 + sizeOf xs + 4 + taken (p .size) (p .variable)) 640
+has-room xs p = leb (4 + sizeOf xs + 4 + taken (p .size) (p .variable)) tableBytes
 
 module _ (bs : List ℕ) (xs : List Item) (t : Holds bs xs) (p : Push) where
   more : Adds bs (p .key) (p .size) (p .variable) → Holds (withEntry bs (p .key) (p .size) (p .variable)) (xs ++ blank p ∷ [])
@@ -98,5 +99,5 @@ all-told (p ∷ ps) bs xs t = rw (told-same bs xs t p, all-told ps _ _ (push-hol
 
 pub builder-is-list : BuilderIsList
 builder-is-list ps =
-    let t = all-hold ps (replicate 640 0) [] fresh in
-    record { ok = t .ok; reads = t .reads; told = all-told ps (replicate 640 0) [] fresh }
+    let t = all-hold ps (replicate tableBytes 0) [] fresh in
+    record { ok = t .ok; reads = t .reads; told = all-told ps (replicate tableBytes 0) [] fresh }

@@ -11,6 +11,7 @@ use lib.ListN.{length, getD, replicate, length-set}
 use lib.Seq.{sets}
 use lib.Dec.{leb}
 use borrow.Author.Tests.{lt-ltb, le-leb, lt-leb, leb-true}
+use Rattle.wire.specs.Size.{tableBytes}
 use Rattle.wire.specs.Test.{both}
 use Rattle.wire.specs.Number.{word, wordBytes}
 use Rattle.wire.proofs.Fold.{all-zeros}
@@ -221,7 +222,7 @@ module _ (bs out : List ℕ) (k n : ℕ) (var : Bool) (a : Adds bs k n var) (g :
       sym (last out (λ (z : countOf out ≡ 0). omega arith)) ∙ rw e key-new
 
   -- where the bytes have room for it, it is a builder, and reads as the list with a blank entry more
-  module _ (room : 640 ≤ length bs) where
+  module _ (room : tableBytes ≤ length bs) where
     table-out : accepts out ≡ true
     table-out =
         let s = g .size in
@@ -250,7 +251,7 @@ module _ (bs out : List ℕ) (k n : ℕ) (var : Bool) (a : Adds bs k n var) (g :
     view-out = rw (g .count, add-one) (items-out (countOf bs) 0 (omega arith))
 
 -- for the crates above: the bytes of a new builder are a builder's
-pub fresh-builder : builder (replicate 640 0) ≡ true
+pub fresh-builder : builder (replicate tableBytes 0) ≡ true
 unfolding builder accepts both word indexOk valuesOk
 fresh-builder = all-zeros 636
 
@@ -271,7 +272,7 @@ module _ (bs : List ℕ) (k n : ℕ) (var : Bool) where
   pushed-length = pushed (λ out. length out ≡ length bs) refl (λ e. simp length-set)
 
   -- and of a builder's bytes a builder's
-  pub pushed-builder : 640 ≤ length bs → builder bs ≡ true → builder (afterPush bs k n var) ≡ true
+  pub pushed-builder : tableBytes ≤ length bs → builder bs ≡ true → builder (afterPush bs k n var) ≡ true
   pushed-builder l ok =
       pushed (λ out. builder out ≡ true) ok
       (λ e.

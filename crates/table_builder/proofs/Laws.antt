@@ -8,6 +8,7 @@ use lib.ListN.{length, drop, drop-of-length-le}
 use lib.Seq.{sets, sets-eq}
 use lib.Dec.{leb}
 use borrow.Author.Tests.{lt-ltb, le-ltb, le-leb, lt-leb, eq-eqb, ne-eqb, ltb-true, leb-true}
+use Rattle.wire.specs.Size.{tableBytes, valueBytes}
 use Rattle.wire.specs.Test.{both}
 use Rattle.wire.specs.Bytes.{zeros}
 use Rattle.wire.specs.Number.{wordBytes}
@@ -51,7 +52,7 @@ module _ (bs : List ℕ) (k n : ℕ) (var : Bool) where
   unfolding pushPlan
   bad a h = rw (a, h)
 
-  pub too-long : builder bs ≡ true → 512 < n → BadEntry ≡ pushPlan bs k n var
+  pub too-long : builder bs ≡ true → valueBytes < n → BadEntry ≡ pushPlan bs k n var
   unfolding entryFits
   too-long a h = bad a (both-false-l _ _ (lt-leb _ _ h))
 
@@ -63,15 +64,15 @@ module _ (bs : List ℕ) (k n : ℕ) (var : Bool) where
   unfolding entryFits
   low-key a h = bad a (both-false-r _ _ (both-false-r _ _ (le-ltb _ _ h)))
 
-  good : n ≤ 512 → k ≤ 32767 → lastKey bs < k → entryFits (lastKey bs) k n ≡ true
+  good : n ≤ valueBytes → k ≤ 32767 → lastKey bs < k → entryFits (lastKey bs) k n ≡ true
   unfolding entryFits
   good a b c = both-true _ _ (le-leb _ _ a) (both-true _ _ (le-leb _ _ b) (lt-ltb _ _ c))
 
-  pub no-room : builder bs ≡ true → n ≤ 512 → k ≤ 32767 → lastKey bs < k → 640 < endOf bs + 4 + taken n var → NoRoom ≡ pushPlan bs k n var
+  pub no-room : builder bs ≡ true → n ≤ valueBytes → k ≤ 32767 → lastKey bs < k → tableBytes < endOf bs + 4 + taken n var → NoRoom ≡ pushPlan bs k n var
   unfolding pushPlan
   no-room a b c d h = rw (a, good b c d, lt-leb _ _ h)
 
-  pub added : builder bs ≡ true → n ≤ 512 → k ≤ 32767 → lastKey bs < k → endOf bs + 4 + taken n var ≤ 640 → Added ≡ pushPlan bs k n var
+  pub added : builder bs ≡ true → n ≤ valueBytes → k ≤ 32767 → lastKey bs < k → endOf bs + 4 + taken n var ≤ tableBytes → Added ≡ pushPlan bs k n var
   unfolding pushPlan
   added a b c d h = rw (a, good b c d, le-leb _ _ h)
 
@@ -88,7 +89,7 @@ pub record Adds (bs : List ℕ) (k n : ℕ) (var : Bool) : Type 0 where
   pub ok : builder bs ≡ true
   pub key : k ≤ 32767
   pub above : lastKey bs < k
-  pub room : endOf bs + 4 + taken n var ≤ 640
+  pub room : endOf bs + 4 + taken n var ≤ tableBytes
 
 -- an answer Added that the second could not give is the first's
 only-first : (t : Bool) (a b : Pushed) → cond t a b ≡ Added → (b ≡ Added → ⊥) → (t ≡ true) × (a ≡ Added)
@@ -101,7 +102,7 @@ module _ (bs : List ℕ) (k n : ℕ) (var : Bool) where
   adds h =
       let h1 = only-first (builder bs) _ BadBuilder h (λ e. let z : _≡_ {A = ℕ} 0 1 = cc in omega arith) in
       let h2 = only-first (entryFits (lastKey bs) k n) _ BadEntry (h1 .1) (λ e. let z : _≡_ {A = ℕ} 0 1 = cc in omega arith) in
-      let h3 = only-first (leb (endOf bs + 4 + taken n var) 640) _ NoRoom (h2 .1) (λ e. let z : _≡_ {A = ℕ} 0 1 = cc in omega arith) in
+      let h3 = only-first (leb (endOf bs + 4 + taken n var) tableBytes) _ NoRoom (h2 .1) (λ e. let z : _≡_ {A = ℕ} 0 1 = cc in omega arith) in
       let f = both-r _ _ (h2 .0) in
       record { ok = h1 .0; key = leb-true _ _ (both-l _ _ f); above = ltb-true _ _ (both-r _ _ f); room = leb-true _ _ (h3 .0) }
 

@@ -5,6 +5,7 @@ use mathlib.Core.Bool.{Bool, true, cond}
 use mathlib.Core.List.{List, [], _∷_, _++_}
 use lib.ListN.{replicate}
 use lib.Dec.{leb}
+use Rattle.wire.specs.Size.{tableBytes}
 use Rattle.wire.specs.Run.{afterAll, toldAll}
 use Rattle.table_view.specs.View.{Item, view}
 use Rattle.table_view.specs.Told.{Told, done, refused, ifDone}
@@ -33,7 +34,7 @@ sizeOf (x ∷ xs) = 4 + taken (x .room) (x .variable) + sizeOf xs
 unfoldable pub listTold : List Item → Push → Told
 listTold xs p =
     cond (entryFits (lastOf 0 xs) (p .key) (p .size))
-    (cond (leb (4 + sizeOf xs + 4 + taken (p .size) (p .variable)) 640) done (refused 6))
+    (cond (leb (4 + sizeOf xs + 4 + taken (p .size) (p .variable)) tableBytes) done (refused 6))
     (refused 5)
 
 abbrev pub listAfter : List Item → Push → List Item
@@ -48,9 +49,9 @@ bytesAfter bs p = afterPush bs (p .key) (p .size) (p .variable)
 
 -- the statement: from a new builder, whatever is pushed, the bytes are a builder's, the reader finds the list, and each push told the same
 pub record Built (ps : List Push) : Type 0 where
-  pub ok : builder (afterAll bytesAfter (replicate 640 0) ps) ≡ true
-  pub reads : view (afterAll bytesAfter (replicate 640 0) ps) ≡ afterAll listAfter [] ps
-  pub told : toldAll bytesAfter bytesTold (replicate 640 0) ps ≡ toldAll listAfter listTold [] ps
+  pub ok : builder (afterAll bytesAfter (replicate tableBytes 0) ps) ≡ true
+  pub reads : view (afterAll bytesAfter (replicate tableBytes 0) ps) ≡ afterAll listAfter [] ps
+  pub told : toldAll bytesAfter bytesTold (replicate tableBytes 0) ps ≡ toldAll listAfter listTold [] ps
 
 abbrev pub BuilderIsList : Type 0
 BuilderIsList = (ps : List Push) → Built ps

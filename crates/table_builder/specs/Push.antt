@@ -5,6 +5,7 @@ use mathlib.Core.List.{List}
 use lib.ListN.{drop}
 use lib.Seq.{sets}
 use lib.Dec.{leb, ltb, eqb}
+use Rattle.wire.specs.Size.{tableBytes, valueBytes}
 use Rattle.wire.specs.Test.{both}
 use Rattle.wire.specs.Bytes.{zeros}
 use Rattle.wire.specs.Number.{wordBytes}
@@ -31,7 +32,7 @@ lastKey bs = cond (eqb (countOf bs) 0) 0 (keyAt bs (countOf bs - 1))
 
 -- length at most 512, key at most 0x7FFF and above the last, and so above 0
 unfoldable pub entryFits : ℕ → ℕ → ℕ → Bool
-entryFits last k n = both (leb n 512) (both (leb k 32767) (ltb last k))
+entryFits last k n = both (leb n valueBytes) (both (leb k 32767) (ltb last k))
 
 -- how many bytes a value takes: a variable one starts with a 2-byte length
 unfoldable pub taken : ℕ → Bool → ℕ
@@ -45,7 +46,7 @@ flagged k var = cond var (k + 32768) k
 unfoldable pub pushPlan : List ℕ → ℕ → ℕ → Bool → Pushed
 pushPlan bs k n var =
     cond (builder bs)
-    (cond (entryFits (lastKey bs) k n) (cond (leb (endOf bs + 4 + taken n var) 640) Added NoRoom) BadEntry)
+    (cond (entryFits (lastKey bs) k n) (cond (leb (endOf bs + 4 + taken n var) tableBytes) Added NoRoom) BadEntry)
     BadBuilder
 
 abbrev pub pushTold : List ℕ → ℕ → ℕ → Bool → Told

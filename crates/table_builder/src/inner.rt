@@ -1,14 +1,16 @@
 // One entry: whether it may be pushed, and pushing it.
 ghost use mathlib.Core.Path.{_≡_};
-ghost use mathlib.Core.Bool.{true};
-ghost use Prim.Native.Nat.{_+_, _*_, _≤_, _<_};
+ghost use Prim.Native.Nat.{_+_, _≤_, _<_};
 ghost use lib.ListN.{length};
-ghost use Rattle.table_view.specs.Layout.{countOf, baseOf, endOf};
+ghost use Rattle.wire.specs.Size.{tableBytes};
+ghost use Rattle.table_view.specs.Layout.{baseOf, endOf};
 ghost use Rattle.table_builder.specs.Push.{builder, lastKey, taken, flagged, pushPlan, withEntry};
 use crate::Pushed;
 use table_view::Key;
 use table_view::Place;
 use table_view::inner as view;
+use wire::sizes::TABLE_SIZE;
+use wire::sizes::VALUE_SIZE;
 
 // Whether these bytes are a builder's: a table's, with zeros after the index.
 pub fn is_builder(b: &[u8]) -> bool
@@ -55,7 +57,7 @@ pub fn judge(b: &[u8], key: Key, n: u16, variable: bool) -> Pushed
     if !is_builder(b) {
         return Pushed::BadBuilder;
     }
-    if 512 < n {
+    if VALUE_SIZE < n as usize {
         return Pushed::BadEntry;
     }
     if 32767 < key.0 {
@@ -64,7 +66,7 @@ pub fn judge(b: &[u8], key: Key, n: u16, variable: bool) -> Pushed
     if key.0 <= last_key(b).0 {
         return Pushed::BadEntry;
     }
-    if 640 < view::values_end(b) + 4 + space(n, variable) {
+    if TABLE_SIZE < view::values_end(b) + 4 + space(n, variable) {
         return Pushed::NoRoom;
     }
     Pushed::Added
@@ -72,8 +74,8 @@ pub fn judge(b: &[u8], key: Key, n: u16, variable: bool) -> Pushed
 
 // The header's two numbers moved, and the entry after the last.
 pub fn add(b: &mut [u8], key: Key, n: u16, variable: bool)
-    requires { ⌜ (4 ≤ length (now b)) × (endOf (now b) + 4 + taken n variable ≤ 640) ⌝ }
-    requires { ⌜ (640 ≤ length (now b)) × (key .0 < 32768) ⌝ }
+    requires { ⌜ (4 ≤ length (now b)) × (endOf (now b) + 4 + taken n variable ≤ tableBytes) ⌝ }
+    requires { ⌜ (tableBytes ≤ length (now b)) × (key .0 < 32768) ⌝ }
     ensures { λ _. ⌜ now (b .exit) ≡ withEntry (now (b .entry)) (key .0) n variable ⌝ }
 {
     let count = view::count(b);

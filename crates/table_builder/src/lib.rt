@@ -3,8 +3,11 @@ pub mod inner;
 
 use table_view::Key;
 use table_view::Outcome;
+use wire::sizes::TABLE_SIZE;
+use wire::sizes::Table;
 ghost use mathlib.Core.Path.{_≡_};
 ghost use lib.ListN.{replicate};
+ghost use Rattle.wire.specs.Size.{tableBytes};
 ghost use Rattle.table_view.specs.Read.{told};
 ghost use Rattle.table_builder.specs.Push.{toldPushed, pushTold, afterPush, buildTold, afterBuild};
 
@@ -17,14 +20,14 @@ pub enum Pushed {
 }
 
 // A builder with no entry.
-pub fn new() -> [u8; 640]
-    ensures { λ r. ⌜ r ≡ replicate 640 0 ⌝ }
+pub fn new() -> Table
+    ensures { λ r. ⌜ r ≡ replicate tableBytes 0 ⌝ }
 {
-    [0u8; 640]
+    [0u8; TABLE_SIZE]
 }
 
 // One entry more, for a value of n bytes, or of up to n. Any answer but Added leaves every byte.
-pub fn push(b: &mut [u8; 640], key: Key, n: u16, variable: bool) -> Pushed
+pub fn push(b: &mut Table, key: Key, n: u16, variable: bool) -> Pushed
     ensures { λ r. ⌜ (toldPushed r ≡ pushTold (now (b .entry)) (key .0) n variable) × (now (b .exit) ≡ afterPush (now (b .entry)) (key .0) n variable) ⌝ }
 {
     let plan = inner::judge(b, key, n, variable);
@@ -35,7 +38,7 @@ pub fn push(b: &mut [u8; 640], key: Key, n: u16, variable: bool) -> Pushed
 }
 
 // The builder's table, with every value zero. A builder that breaks the rules leaves every byte of the table.
-pub fn build(b: &[u8; 640], table: &mut [u8; 640]) -> Outcome
+pub fn build(b: &Table, table: &mut Table) -> Outcome
     ensures { λ r. ⌜ (told r ≡ buildTold (now (b .entry))) × (now (table .exit) ≡ afterBuild (now (b .entry)) (now (table .entry))) ⌝ }
 {
     if !inner::is_builder(b) {

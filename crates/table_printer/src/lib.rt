@@ -3,6 +3,7 @@ use libc::STDOUT_FILENO;
 use table_view::Place;
 use table_view::inner;
 use wire::least;
+use wire::sizes::VALUE_SIZE;
 ghost use mathlib.Core.Path.{_≡_};
 ghost use mathlib.Core.Bool.{true};
 ghost use Prim.Native.Nat.{_≤_, _<_};
@@ -18,7 +19,7 @@ fn print(s: &[u8]) {
 fn print_pairs(d: &[u8])
     requires { ⌜ length (now d) ≤ 256 ⌝ }
 {
-    let mut line = [0u8; 512];
+    let mut line = [0u8; VALUE_SIZE];
     text::inner::hex(d, &mut line);
     let n = 2 * d.len();
     print(&line[..n]);

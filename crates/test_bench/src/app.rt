@@ -8,9 +8,11 @@ use lines::parts;
 use lines::say;
 use lines::words;
 use wire::least;
+use wire::sizes::Record;
+use wire::sizes::Table;
 
 // Copies a value out. No value is over 512 bytes, so that 1,024 stand for any more.
-fn get(line: &[u8], list: &[[u8; 32]], store: &[u8], tables: &[[u8; 640]], b: Bench) {
+fn get(line: &[u8], list: &[Record], store: &[u8], tables: &[Table], b: Bench) {
     let who = peer::read(line, 1);
     let handle = number::at(line, 2);
     let size = number::at(line, 3);
@@ -29,12 +31,12 @@ fn get(line: &[u8], list: &[[u8; 32]], store: &[u8], tables: &[[u8; 640]], b: Be
     let mut out = [0xEEu8; 1024];
     let n = least(size, 1024);
     let id = who.id;
-    let row = b.row;
-    let r = edge::value::get(row, list, store, tables, id, handle as u16, &mut out[..n]);
+    let row = memory::row_bytes(b);
+    let r = edge::value::get(list, store, &row, tables, id, handle as u16, &mut out[..n]);
     reply::tell_value(r, b"val ", &out);
 }
 
-fn set(line: &[u8], list: &mut [[u8; 32]], store: &mut [u8], tables: &mut [[u8; 640]], b: Bench) {
+fn set(line: &[u8], list: &mut [Record], store: &mut [u8], tables: &mut [Table], b: Bench) {
     let who = peer::read(line, 1);
     let handle = number::at(line, 2);
     let mut d = [0u8; 4100];
@@ -52,11 +54,11 @@ fn set(line: &[u8], list: &mut [[u8; 32]], store: &mut [u8], tables: &mut [[u8; 
         return;
     }
     let id = who.id;
-    let row = b.row;
+    let row = memory::row_bytes(b);
     let r = edge::value::set(
-        row,
         list,
         store,
+        &row,
         tables,
         id,
         handle as u16,
@@ -66,7 +68,7 @@ fn set(line: &[u8], list: &mut [[u8; 32]], store: &mut [u8], tables: &mut [[u8; 
 }
 
 // Whether a link may read, or write, what stands under a handle.
-fn may(line: &[u8], list: &[[u8; 32]], store: usize, tables: &[[u8; 640]], b: Bench, writes: bool) {
+fn may(line: &[u8], list: &[Record], store: &[u8], tables: &[Table], b: Bench, writes: bool) {
     let who = peer::read(line, 1);
     let level = peer::level(line, 2);
     let n = number::at(line, 3);
@@ -84,12 +86,12 @@ fn may(line: &[u8], list: &[[u8; 32]], store: usize, tables: &[[u8; 640]], b: Be
     }
     let handle = n as u16;
     let id = who.id;
-    let row = b.row;
+    let row = memory::row_bytes(b);
     if writes {
-        let r = edge::value::can_write(row, list, store, tables, id, level, handle);
+        let r = edge::value::can_write(list, store, &row, tables, id, level, handle);
         reply::tell(r, b"ok", b"none");
     } else {
-        let r = edge::value::can_read(row, list, store, tables, id, level, handle);
+        let r = edge::value::can_read(list, store, &row, tables, id, level, handle);
         reply::tell(r, b"ok", b"none");
     }
 }
@@ -97,9 +99,9 @@ fn may(line: &[u8], list: &[[u8; 32]], store: usize, tables: &[[u8; 640]], b: Be
 // Whether a peer has subscribed to notifications, or to indications.
 fn subscribed(
     line: &[u8],
-    list: &[[u8; 32]],
-    store: usize,
-    tables: &[[u8; 640]],
+    list: &[Record],
+    store: &[u8],
+    tables: &[Table],
     b: Bench,
     indications: bool,
 ) {
@@ -116,36 +118,36 @@ fn subscribed(
     }
     let handle = n as u16;
     let id = who.id;
-    let row = b.row;
+    let row = memory::row_bytes(b);
     if indications {
-        let r = edge::subscription::should_indicate(row, list, store, tables, id, handle);
+        let r = edge::subscription::should_indicate(list, store, &row, tables, id, handle);
         reply::tell(r, b"yes", b"no");
     } else {
-        let r = edge::subscription::should_notify(row, list, store, tables, id, handle);
+        let r = edge::subscription::should_notify(list, store, &row, tables, id, handle);
         reply::tell(r, b"yes", b"no");
     }
 }
 
 // The calls that change nothing.
-fn looked(line: &[u8], list: &[[u8; 32]], store: &[u8], tables: &[[u8; 640]], b: Bench) -> bool {
+fn looked(line: &[u8], list: &[Record], store: &[u8], tables: &[Table], b: Bench) -> bool {
     if words::is_call(line, b"get", 3) {
         get(line, list, store, tables, b);
         return true;
     }
     if words::is_call(line, b"canread", 3) {
-        may(line, list, store.len(), tables, b, false);
+        may(line, list, store, tables, b, false);
         return true;
     }
     if words::is_call(line, b"canwrite", 3) {
-        may(line, list, store.len(), tables, b, true);
+        may(line, list, store, tables, b, true);
         return true;
     }
     if words::is_call(line, b"notify", 2) {
-        subscribed(line, list, store.len(), tables, b, false);
+        subscribed(line, list, store, tables, b, false);
         return true;
     }
     if words::is_call(line, b"indicate", 2) {
-        subscribed(line, list, store.len(), tables, b, true);
+        subscribed(line, list, store, tables, b, true);
         return true;
     }
     false
@@ -154,9 +156,9 @@ fn looked(line: &[u8], list: &[[u8; 32]], store: &[u8], tables: &[[u8; 640]], b:
 // Answers whether the line was one of these calls. None of them changes a slot or a record.
 pub fn answer(
     line: &[u8],
-    list: &mut [[u8; 32]],
+    list: &mut [Record],
     store: &mut [u8],
-    tables: &mut [[u8; 640]],
+    tables: &mut [Table],
     b: Bench,
 ) -> bool {
     if words::is_call(line, b"set", 3) {

@@ -7,14 +7,17 @@ use crate::memory::Bench;
 use crate::memory::Turn;
 use crate::poke;
 use crate::serve;
+use wire::sizes::PreparedBytes;
+use wire::sizes::Record;
+use wire::sizes::Table;
 
 // The calls that leave slots and records.
 fn steady(
     line: &[u8],
-    list: &mut [[u8; 32]],
+    list: &mut [Record],
     store: &mut [u8],
-    tables: &mut [[u8; 640]],
-    data: &mut [[u8; 512]],
+    tables: &mut [Table],
+    data: &mut [PreparedBytes],
     b: Bench,
 ) -> bool {
     if app::answer(line, list, store, tables, b) {
@@ -26,10 +29,10 @@ fn steady(
 // Requests and pokes.
 fn served(
     line: &[u8],
-    list: &mut [[u8; 32]],
+    list: &mut [Record],
     store: &mut [u8],
-    tables: &mut [[u8; 640]],
-    data: &mut [[u8; 512]],
+    tables: &mut [Table],
+    data: &mut [PreparedBytes],
     b: Bench,
 ) -> Turn {
     let r = serve::answer(line, list, store, tables, data, b);
@@ -41,16 +44,16 @@ fn served(
 
 pub fn answer(
     line: &[u8],
-    list: &mut [[u8; 32]],
+    list: &mut [Record],
     store: &mut [u8],
-    tables: &mut [[u8; 640]],
-    data: &mut [[u8; 512]],
+    tables: &mut [Table],
+    data: &mut [PreparedBytes],
     b: Bench,
 ) -> Turn {
     if steady(line, list, store, tables, data, b) {
         return memory::known(b);
     }
-    let j = joining::answer(line, list, store.len(), tables, b);
+    let j = joining::answer(line, list, store, tables, b);
     if j.known {
         return j;
     }

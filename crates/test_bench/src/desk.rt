@@ -12,6 +12,12 @@ use lines::parts;
 use lines::say;
 use lines::words;
 use wire::least;
+use wire::sizes::PreparedBytes;
+use wire::sizes::RECORD_SIZE;
+use wire::sizes::Record;
+use wire::sizes::TABLE_SIZE;
+use wire::sizes::Table;
+use wire::sizes::VALUE_SIZE;
 
 // Whether a line is no call but passed on: an empty one, or a comment.
 fn echoed(line: &[u8]) -> bool {
@@ -29,12 +35,12 @@ fn echoed(line: &[u8]) -> bool {
 // The calls on what is open, or opens it.
 fn on_hub(
     line: &[u8],
-    pending: &[[u8; 32]],
+    pending: &[Record],
     kept: &[u8],
-    list: &mut [[u8; 32]],
+    list: &mut [Record],
     store: &mut [u8],
-    tables: &mut [[u8; 640]],
-    data: &mut [[u8; 512]],
+    tables: &mut [Table],
+    data: &mut [PreparedBytes],
     b: Bench,
 ) -> Bench {
     if words::is_call(line, b"open", 0) {
@@ -56,12 +62,12 @@ fn on_hub(
 fn answer(
     line: &[u8; 8200],
     len: usize,
-    pending: &mut [[u8; 32]; 65],
+    pending: &mut [Record; 65],
     kept: &mut [u8; 4100],
-    list: &mut [[u8; 32]; 65],
+    list: &mut [Record; 65],
     store: &mut [u8; 4100],
-    tables: &mut [[u8; 640]; 8],
-    data: &mut [[u8; 512]; 16],
+    tables: &mut [Table; 8],
+    data: &mut [PreparedBytes; 16],
     b: Bench,
 ) -> Bench {
     let t = pending::answer(parts::front(line, len), pending, kept, b);
@@ -82,7 +88,7 @@ fn answer(
 }
 
 // Whether a line is answered without these: echoed, too long, or a call on the bench's own builder and table.
-fn is_apart(line: &[u8; 8200], len: usize, builder: &mut [u8; 640], table: &mut [u8; 640]) -> bool {
+fn is_apart(line: &[u8; 8200], len: usize, builder: &mut Table, table: &mut Table) -> bool {
     if 8200 < len {
         say::no_call();
         return true;
@@ -101,14 +107,14 @@ fn next(feed: Feed, chunk: &mut [u8; 65536], line: &mut [u8; 8200]) -> Line {
 pub fn run() {
     let mut chunk = [0u8; 65536];
     let mut line = [0u8; 8200];
-    let mut pending = [[0u8; 32]; 65];
+    let mut pending = [[0u8; RECORD_SIZE]; 65];
     let mut kept = [0u8; 4100];
-    let mut list = [[0u8; 32]; 65];
+    let mut list = [[0u8; RECORD_SIZE]; 65];
     let mut store = [0u8; 4100];
-    let mut tables = [[0u8; 640]; 8];
-    let mut data = [[0u8; 512]; 16];
-    let mut builder = [0u8; 640];
-    let mut table = [0u8; 640];
+    let mut tables = [[0u8; TABLE_SIZE]; 8];
+    let mut data = [[0u8; VALUE_SIZE]; 16];
+    let mut builder = [0u8; TABLE_SIZE];
+    let mut table = [0u8; TABLE_SIZE];
     let mut b = memory::fresh();
     let mut feed = input::start();
     let mut turns = u64::MAX;

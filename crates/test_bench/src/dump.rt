@@ -6,8 +6,12 @@ use lines::say;
 use lines::words;
 use peers::Slot;
 use state::Prepared;
+use wire::sizes::PreparedBytes;
+use wire::sizes::Record;
+use wire::sizes::SLOTS;
+use wire::sizes::Table;
 
-fn entry(r: &[u8; 32]) {
+fn entry(r: &Record) {
     let a = attribute::inner::decode(r);
     say::say(b"attr ");
     say::number(a.handle);
@@ -20,7 +24,7 @@ fn entry(r: &[u8; 32]) {
     }
 }
 
-fn entries(list: &[[u8; 32]]) {
+fn entries(list: &[Record]) {
     let mut i = 0;
     while i < list.len() {
         entry(&list[i]);
@@ -28,7 +32,7 @@ fn entries(list: &[[u8; 32]]) {
     }
 }
 
-fn slot(i: u16, s: Slot, table: &[u8; 640]) {
+fn slot(i: u16, s: Slot, table: &Table) {
     let id = s.id;
     let addr = id.addr;
     say::say(b"slot ");
@@ -41,7 +45,7 @@ fn slot(i: u16, s: Slot, table: &[u8; 640]) {
     say::bytes(b" ", parts::trimmed(table));
 }
 
-fn slots(row: [Slot; 8], tables: &[[u8; 640]]) {
+fn slots(row: [Slot; SLOTS], tables: &[Table]) {
     if tables.len() != 8 {
         return;
     }
@@ -54,7 +58,7 @@ fn slots(row: [Slot; 8], tables: &[[u8; 640]]) {
 }
 
 // A record that is not all zero.
-fn record(i: u16, p: Prepared, data: &[u8; 512]) {
+fn record(i: u16, p: Prepared, data: &PreparedBytes) {
     if p.handle == 0 {
         if p.offset == 0 {
             if p.len == 0 {
@@ -71,7 +75,7 @@ fn record(i: u16, p: Prepared, data: &[u8; 512]) {
     say::bytes(b" ", parts::front(data, p.len as usize));
 }
 
-fn records(all: [Prepared; 16], data: &[[u8; 512]]) {
+fn records(all: [Prepared; 16], data: &[PreparedBytes]) {
     if data.len() != 16 {
         return;
     }
@@ -86,10 +90,10 @@ fn records(all: [Prepared; 16], data: &[[u8; 512]]) {
 // Answers whether the line asks for it.
 pub fn answer(
     line: &[u8],
-    list: &[[u8; 32]],
+    list: &[Record],
     store: &[u8],
-    tables: &[[u8; 640]],
-    data: &[[u8; 512]],
+    tables: &[Table],
+    data: &[PreparedBytes],
     b: Bench,
 ) -> bool {
     if !words::is_call(line, b"state", 0) {

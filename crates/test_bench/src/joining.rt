@@ -9,14 +9,11 @@ use lines::number;
 use lines::parts;
 use lines::say;
 use lines::words;
+use wire::sizes::Record;
+use wire::sizes::TABLE_SIZE;
+use wire::sizes::Table;
 
-fn connect(
-    line: &[u8],
-    list: &[[u8; 32]],
-    store: usize,
-    tables: &mut [[u8; 640]],
-    b: Bench,
-) -> Bench {
+fn connect(line: &[u8], list: &[Record], store: &[u8], tables: &mut [Table], b: Bench) -> Bench {
     let who = peer::read(line, 1);
     if !who.ok {
         say::no_call();
@@ -26,21 +23,13 @@ fn connect(
         return b;
     }
     let id = who.id;
-    let row = b.row;
-    let j = edge::connection::connect(row, list, store, tables, id);
-    let r = j.reply;
+    let mut row = memory::row_bytes(b);
+    let r = edge::connection::connect(list, store, &mut row, tables, id);
     reply::tell(r, b"ok", b"none");
-    let slot = j.slot;
-    memory::with_slot(b, j.place, slot)
+    memory::with_row(b, row)
 }
 
-fn disconnect(
-    line: &[u8],
-    list: &[[u8; 32]],
-    store: usize,
-    tables: &mut [[u8; 640]],
-    b: Bench,
-) -> Bench {
+fn disconnect(line: &[u8], list: &[Record], store: &[u8], tables: &mut [Table], b: Bench) -> Bench {
     let who = peer::read(line, 1);
     let bonded = number::at(line, 2);
     if !who.ok {
@@ -55,16 +44,14 @@ fn disconnect(
         return b;
     }
     let id = who.id;
-    let row = b.row;
-    let j = edge::connection::disconnect(row, list, store, tables, id, bonded as u8);
-    let r = j.reply;
+    let mut row = memory::row_bytes(b);
+    let r = edge::connection::disconnect(list, store, &mut row, tables, id, bonded as u8);
     reply::tell(r, b"ok", b"none");
-    let slot = j.slot;
-    memory::with_slot(b, j.place, slot)
+    memory::with_row(b, row)
 }
 
 // The peer's whole table is handed out; what is said of it ends with its values.
-fn get_table(line: &[u8], list: &[[u8; 32]], store: usize, tables: &[[u8; 640]], b: Bench) {
+fn get_table(line: &[u8], list: &[Record], store: &[u8], tables: &[Table], b: Bench) {
     let who = peer::read(line, 1);
     if !who.ok {
         say::no_call();
@@ -74,9 +61,9 @@ fn get_table(line: &[u8], list: &[[u8; 32]], store: usize, tables: &[[u8; 640]],
         return;
     }
     let id = who.id;
-    let row = b.row;
-    let mut out = [0xEEu8; 640];
-    let r = edge::table::get_client_att_table(row, list, store, tables, id, &mut out);
+    let row = memory::row_bytes(b);
+    let mut out = [0xEEu8; TABLE_SIZE];
+    let r = edge::table::get_client_att_table(list, store, &row, tables, id, &mut out);
     if r.status == 2 {
         tables::raw(&out);
     } else {
@@ -84,7 +71,7 @@ fn get_table(line: &[u8], list: &[[u8; 32]], store: usize, tables: &[[u8; 640]],
     }
 }
 
-fn set_table(line: &[u8], list: &[[u8; 32]], store: usize, tables: &mut [[u8; 640]], b: Bench) {
+fn set_table(line: &[u8], list: &[Record], store: &[u8], tables: &mut [Table], b: Bench) {
     let who = peer::read(line, 1);
     let mut saved = [0u8; 4100];
     let n = number::bytes_at(line, 2, &mut saved);
@@ -100,11 +87,11 @@ fn set_table(line: &[u8], list: &[[u8; 32]], store: usize, tables: &mut [[u8; 64
         return;
     }
     let id = who.id;
-    let row = b.row;
+    let row = memory::row_bytes(b);
     let r = edge::table::set_client_att_table(
-        row,
         list,
         store,
+        &row,
         tables,
         id,
         parts::front(&saved, n),
@@ -112,13 +99,7 @@ fn set_table(line: &[u8], list: &[[u8; 32]], store: usize, tables: &mut [[u8; 64
     reply::tell(r, b"ok", b"none");
 }
 
-pub fn answer(
-    line: &[u8],
-    list: &[[u8; 32]],
-    store: usize,
-    tables: &mut [[u8; 640]],
-    b: Bench,
-) -> Turn {
+pub fn answer(line: &[u8], list: &[Record], store: &[u8], tables: &mut [Table], b: Bench) -> Turn {
     if words::is_call(line, b"connect", 1) {
         return memory::known(connect(line, list, store, tables, b));
     }

@@ -2,7 +2,10 @@
 use lines::say;
 use peers::Identity;
 use peers::Slot;
+use peers::one;
 use state::Prepared;
+use wire::sizes::SLOTS;
+use wire::sizes::SlotBytes;
 
 // The counts of the pending list and store; whether a hub is open, its counts, its slots and its links' prepared writes; and whether
 // the bytes past the last response were as they were lent.
@@ -12,7 +15,7 @@ pub struct Bench {
     pub open: bool,
     pub entries: usize,
     pub store: usize,
-    pub row: [Slot; 8],
+    pub row: [Slot; SLOTS],
     pub records: [Prepared; 16],
     pub clean: bool,
 }
@@ -53,7 +56,7 @@ pub fn fresh() -> Bench {
     let addr = [0u8; 6];
     let id = Identity { kind: 0, addr };
     let empty = Slot { id, connected: 0 };
-    let row = [empty; 8];
+    let row = [empty; SLOTS];
     let records = empty_records();
     Bench {
         pending: 0,
@@ -76,10 +79,32 @@ pub fn is_closed(b: Bench) -> bool {
     true
 }
 
+// The row in bytes, as the calls are lent it; and the bench with the row that they leave.
+pub fn row_bytes(b: Bench) -> [SlotBytes; SLOTS] {
+    let row = b.row;
+    one::encode_row(row)
+}
+
+pub fn with_row(b: Bench, row: [SlotBytes; SLOTS]) -> Bench {
+    let slots = [
+        one::decode(&row[0]),
+        one::decode(&row[1]),
+        one::decode(&row[2]),
+        one::decode(&row[3]),
+        one::decode(&row[4]),
+        one::decode(&row[5]),
+        one::decode(&row[6]),
+        one::decode(&row[7]),
+    ];
+    let mut next = b;
+    next.row = slots;
+    next
+}
+
 // The bench with another slot at a place.
 pub fn with_slot(b: Bench, place: usize, s: Slot) -> Bench {
     let mut row = b.row;
-    if place < 8 {
+    if place < SLOTS {
         row[place] = s;
     }
     let mut next = b;

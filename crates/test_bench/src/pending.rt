@@ -7,6 +7,8 @@ use lines::parts;
 use lines::say;
 use lines::words;
 use wire::least;
+use wire::sizes::RECORD_SIZE;
+use wire::sizes::Record;
 
 // The numbers of an `attr` line. Flags: 1 variable, 2 client.
 struct Entry {
@@ -72,8 +74,8 @@ fn is_entry(e: Entry) -> bool {
 }
 
 // An entry's record. A start that no record holds lies past every store, as the last one that a record holds does.
-fn record(e: Entry, uuid: &[u8]) -> [u8; 32] {
-    let mut r = [0u8; 32];
+fn record(e: Entry, uuid: &[u8]) -> Record {
+    let mut r = [0u8; RECORD_SIZE];
     wire::inner::set(&mut r, 0, number::low16(e.handle));
     wire::inner::set(&mut r, 2, number::low16(e.cap));
     wire::inner::set(&mut r, 4, number::low16(least(e.start, 0xFFFF)));
@@ -87,7 +89,7 @@ fn record(e: Entry, uuid: &[u8]) -> [u8; 32] {
 }
 
 // One more entry.
-fn attr(line: &[u8], list: &mut [[u8; 32]], b: Bench) -> Bench {
+fn attr(line: &[u8], list: &mut [Record], b: Bench) -> Bench {
     let e = read_entry(line);
     let mut uuid = [0u8; 4100];
     let n = number::bytes_at(line, 2, &mut uuid);
@@ -137,7 +139,7 @@ fn new(b: Bench) -> Bench {
     next
 }
 
-pub fn answer(line: &[u8], list: &mut [[u8; 32]], kept: &mut [u8], b: Bench) -> Turn {
+pub fn answer(line: &[u8], list: &mut [Record], kept: &mut [u8], b: Bench) -> Turn {
     if words::is_call(line, b"new", 0) {
         return memory::known(new(b));
     }

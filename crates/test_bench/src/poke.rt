@@ -10,6 +10,11 @@ use lines::words;
 use peers::Slot;
 use state::Prepared;
 use wire::Found;
+use wire::sizes::PreparedBytes;
+use wire::sizes::Record;
+use wire::sizes::TABLE_SIZE;
+use wire::sizes::Table;
+use wire::sizes::VALUE_SIZE;
 
 fn slot(line: &[u8], b: Bench) -> Bench {
     let place = number::at(line, 1);
@@ -39,14 +44,14 @@ fn slot(line: &[u8], b: Bench) -> Bench {
     memory::with_slot(b, place, s)
 }
 
-fn table(line: &[u8], tables: &mut [[u8; 640]], b: Bench) {
+fn table(line: &[u8], tables: &mut [Table], b: Bench) {
     let place = number::at(line, 1);
-    let mut t = [0u8; 640];
+    let mut t = [0u8; TABLE_SIZE];
     let n = number::bytes_at(line, 2, &mut t);
     if tables.len() <= place {
         return say::no_call();
     }
-    if 640 < n {
+    if TABLE_SIZE < n {
         return say::no_call();
     }
     if memory::is_closed(b) {
@@ -56,7 +61,7 @@ fn table(line: &[u8], tables: &mut [[u8; 640]], b: Bench) {
     say::line(b"ok");
 }
 
-fn length(line: &[u8], list: &mut [[u8; 32]], b: Bench) {
+fn length(line: &[u8], list: &mut [Record], b: Bench) {
     let handle = number::at(line, 1);
     let len = number::at(line, 2);
     if 0xFFFF < handle {
@@ -94,11 +99,11 @@ fn store(line: &[u8], s: &mut [u8], b: Bench) {
     say::line(b"ok");
 }
 
-fn record(line: &[u8], data: &mut [[u8; 512]], b: Bench) -> Bench {
+fn record(line: &[u8], data: &mut [PreparedBytes], b: Bench) -> Bench {
     let place = number::at(line, 1);
     let handle = number::at(line, 2);
     let offset = number::at(line, 3);
-    let mut d = [0u8; 512];
+    let mut d = [0u8; VALUE_SIZE];
     let n = number::bytes_at(line, 4, &mut d);
     if data.len() <= place {
         say::no_call();
@@ -133,10 +138,10 @@ fn is_record(handle: usize, offset: usize, n: usize) -> bool {
 
 pub fn answer(
     line: &[u8],
-    list: &mut [[u8; 32]],
+    list: &mut [Record],
     s: &mut [u8],
-    tables: &mut [[u8; 640]],
-    data: &mut [[u8; 512]],
+    tables: &mut [Table],
+    data: &mut [PreparedBytes],
     b: Bench,
 ) -> Turn {
     if words::is_call(line, b"pokeslot", 3) {

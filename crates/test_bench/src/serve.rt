@@ -12,6 +12,9 @@ use lines::say;
 use lines::words;
 use peers::Identity;
 use wire::least;
+use wire::sizes::PreparedBytes;
+use wire::sizes::Record;
+use wire::sizes::Table;
 
 // Who asks over which link, with which record and how long a buffer. No buffer over 517 bytes is taken, so that 1,024 stand for any more.
 struct Link {
@@ -61,10 +64,10 @@ fn is_clean(out: &[u8; 1024], from: usize) -> bool {
 }
 
 fn serve(
-    list: &mut [[u8; 32]],
+    list: &mut [Record],
     store: &mut [u8],
-    tables: &mut [[u8; 640]],
-    data: &mut [[u8; 512]],
+    tables: &mut [Table],
+    data: &mut [PreparedBytes],
     b: Bench,
     l: Link,
     q: Asked,
@@ -76,13 +79,13 @@ fn serve(
     }
     let mut out = [0xEEu8; 1024];
     let n = least(l.size, 1024);
-    let row = b.row;
+    let row = memory::row_bytes(b);
     let who = l.who;
     let p = memory::record(b, k);
     let s = edge::request::process(
-        row,
         list,
         store,
+        &row,
         tables,
         who,
         l.level,
@@ -102,10 +105,10 @@ fn serve(
 
 fn request(
     line: &[u8],
-    list: &mut [[u8; 32]],
+    list: &mut [Record],
     store: &mut [u8],
-    tables: &mut [[u8; 640]],
-    data: &mut [[u8; 512]],
+    tables: &mut [Table],
+    data: &mut [PreparedBytes],
     b: Bench,
 ) -> Bench {
     let l = read_link(line);
@@ -144,10 +147,10 @@ fn tail(b: Bench) {
 
 pub fn answer(
     line: &[u8],
-    list: &mut [[u8; 32]],
+    list: &mut [Record],
     store: &mut [u8],
-    tables: &mut [[u8; 640]],
-    data: &mut [[u8; 512]],
+    tables: &mut [Table],
+    data: &mut [PreparedBytes],
     b: Bench,
 ) -> Turn {
     if words::is(line, 0, b"req") {

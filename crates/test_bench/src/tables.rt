@@ -7,6 +7,8 @@ use table_builder::Pushed;
 use table_view::Got;
 use table_view::Key;
 use table_view::Outcome;
+use wire::sizes::TABLE_SIZE;
+use wire::sizes::Table;
 
 fn tell(r: Outcome) {
     match r {
@@ -37,10 +39,10 @@ fn tell_value(name: &[u8], b: &[u8], r: Got) {
 }
 
 // The line's bytes in place of these, with zeros after them.
-fn load(line: &[u8], t: &mut [u8; 640]) {
-    let mut fresh = [0u8; 640];
+fn load(line: &[u8], t: &mut Table) {
+    let mut fresh = [0u8; TABLE_SIZE];
     let n = number::bytes_at(line, 1, &mut fresh);
-    if 640 < n {
+    if TABLE_SIZE < n {
         return say::no_call();
     }
     *t = fresh;
@@ -51,7 +53,7 @@ fn memory(t: &[u8]) {
     say::bytes(b"mem ", parts::trimmed(t));
 }
 
-fn push(line: &[u8], builder: &mut [u8; 640]) {
+fn push(line: &[u8], builder: &mut Table) {
     let key = number::at(line, 1);
     let n = number::at(line, 2);
     let variable = number::at(line, 3);
@@ -67,17 +69,17 @@ fn push(line: &[u8], builder: &mut [u8; 640]) {
     tell_pushed(table_builder::push(builder, Key(key as u16), n as u16, variable == 1));
 }
 
-fn new(builder: &mut [u8; 640]) {
+fn new(builder: &mut Table) {
     let fresh = table_builder::new();
     *builder = fresh;
     say::line(b"ok");
 }
 
-fn build(builder: &[u8; 640], table: &mut [u8; 640]) {
+fn build(builder: &Table, table: &mut Table) {
     tell(table_builder::build(builder, table));
 }
 
-fn write(line: &[u8], table: &mut [u8; 640]) {
+fn write(line: &[u8], table: &mut Table) {
     let key = number::at(line, 1);
     let offset = number::at(line, 2);
     let mut d = [0u8; 4100];
@@ -107,11 +109,11 @@ fn raw_part(table: &[u8]) {
     tell_value(b"table ", table, table_view::raw(table));
 }
 
-pub fn raw(table: &[u8; 640]) {
+pub fn raw(table: &Table) {
     raw_part(table);
 }
 
-fn set_values(line: &[u8], table: &mut [u8; 640]) {
+fn set_values(line: &[u8], table: &mut Table) {
     let mut d = [0u8; 4100];
     let n = number::bytes_at(line, 1, &mut d);
     if 4100 < n {
@@ -135,7 +137,7 @@ fn saved(line: &[u8], lines: bool) {
 }
 
 // The builder's calls. Answers whether the line was one of them.
-fn building(line: &[u8], builder: &mut [u8; 640], table: &mut [u8; 640]) -> bool {
+fn building(line: &[u8], builder: &mut Table, table: &mut Table) -> bool {
     if words::is_call(line, b"bnew", 0) {
         new(builder);
         return true;
@@ -160,7 +162,7 @@ fn building(line: &[u8], builder: &mut [u8; 640], table: &mut [u8; 640]) -> bool
 }
 
 // The calls that change the table.
-fn changing(line: &[u8], table: &mut [u8; 640]) -> bool {
+fn changing(line: &[u8], table: &mut Table) -> bool {
     if words::is_call(line, b"tload", 1) {
         load(line, table);
         return true;
@@ -181,7 +183,7 @@ fn changing(line: &[u8], table: &mut [u8; 640]) -> bool {
 }
 
 // The calls that read it, or a saved one.
-fn reading(line: &[u8], table: &[u8; 640]) -> bool {
+fn reading(line: &[u8], table: &Table) -> bool {
     if words::is_call(line, b"tget", 1) {
         get(line, table);
         return true;
@@ -205,7 +207,7 @@ fn reading(line: &[u8], table: &[u8; 640]) -> bool {
     false
 }
 
-pub fn answer(line: &[u8], builder: &mut [u8; 640], table: &mut [u8; 640]) -> bool {
+pub fn answer(line: &[u8], builder: &mut Table, table: &mut Table) -> bool {
     if building(line, builder, table) {
         return true;
     }

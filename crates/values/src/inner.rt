@@ -18,6 +18,7 @@ use table_view::Key;
 use table_view::inner as view;
 use wire::Found;
 use wire::cursor::WriteCursor;
+use wire::sizes::Record;
 
 // The peer's own value under a handle.
 fn locate_own(table: &[u8], handle: u16) -> Located
@@ -35,7 +36,7 @@ fn locate_own(table: &[u8], handle: u16) -> Located
 }
 
 // The value of the entry at place i, whoever asks.
-pub fn locate_value(list: &[[u8; 32]], table: &[u8], i: usize) -> Located
+pub fn locate_value(list: &[Record], table: &[u8], i: usize) -> Located
     requires { ⌜ (i < length (now list)) × (accepts (now table) ≡ true) ⌝ }
     ensures { λ r. ⌜ r ≡ valueSpan (now (table .entry)) (attributeOf (getD (now (list .entry)) i [])) ⌝ }
 {
@@ -51,7 +52,7 @@ pub fn locate_value(list: &[[u8; 32]], table: &[u8], i: usize) -> Located
 }
 
 // The same for a link that wants to read it.
-pub fn locate_at(list: &[[u8; 32]], table: &[u8], link: Link, i: usize) -> Located
+pub fn locate_at(list: &[Record], table: &[u8], link: Link, i: usize) -> Located
     requires { ⌜ (i < length (now list)) × (accepts (now table) ≡ true) ⌝ }
     ensures { λ r. ⌜ r ≡ readSpan link (now (table .entry)) (attributeOf (getD (now (list .entry)) i [])) ⌝ }
 {
@@ -62,7 +63,7 @@ pub fn locate_at(list: &[[u8; 32]], table: &[u8], link: Link, i: usize) -> Locat
 }
 
 // The same by handle.
-pub fn locate(list: &[[u8; 32]], table: &[u8], link: Link, handle: u16) -> Located
+pub fn locate(list: &[Record], table: &[u8], link: Link, handle: u16) -> Located
     requires { ⌜ Ascends (now list) × (accepts (now table) ≡ true) ⌝ }
     ensures { λ r. ⌜ r ≡ spanAt link (now (list .entry)) (now (table .entry)) (placeOf (now (list .entry)) handle) ⌝ }
 {

@@ -4,6 +4,7 @@ use mathlib.Core.Path.{_≡_}
 use mathlib.Core.Bool.{true, false}
 use mathlib.Core.List.{List, [], _∷_, _++_}
 use lib.ListN.{take, drop, replicate}
+use Rattle.wire.specs.Size.{tableBytes}
 use Rattle.wire.specs.Run.{afterAll}
 use Rattle.table_view.specs.Told.{Told, done, value, refused, att}
 use Rattle.table_view.specs.Read.{readTold, getTold}
@@ -19,7 +20,7 @@ use Rattle.model.specs.declared.Ask.the-variants.{FindInformation, ReadByType, 
 -- T is built from key 3 fixed 2 and key 5 variable 8
 abbrev T : List ℕ
 T =
-    afterAll bytesAfter (replicate 640 0)
+    afterAll bytesAfter (replicate tableBytes 0)
     (record { key = 3; size = 2; variable = false } ∷ record { key = 5; size = 8; variable = true } ∷ [])
 
 -- 3E1047, then 3E10, written to key 5

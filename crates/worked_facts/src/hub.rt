@@ -3,17 +3,21 @@ use crate::say::line;
 use crate::say::say;
 use crate::say::say_answer;
 use attribute::Link;
-use attribute_server::connection::Joining;
 use model::Answer;
 use model::Ask;
 use model::Range;
 use model::Request;
 use peers::Identity;
-use peers::Slot;
 use state::Prepared;
+use wire::sizes::Record;
+use wire::sizes::SLOT_SIZE;
+use wire::sizes::SlotBytes;
+use wire::sizes::TABLE_SIZE;
+use wire::sizes::Table;
+use wire::sizes::VALUE_SIZE;
 
 // A record of the list: a readable variable value of type 7 with room for 20 bytes.
-fn entry(handle: u8, start: u8, len: u8) -> [u8; 32] {
+fn entry(handle: u8, start: u8, len: u8) -> Record {
     [
         handle,
         0,
@@ -55,16 +59,16 @@ fn tablet(n: u8) -> Identity {
     Identity { kind: 0, addr }
 }
 
-fn open(list: &[[u8; 32]; 3], tables: &mut [[u8; 640]; 8]) -> [Slot; 8] {
-    let opening = state::new(list, 60, tables);
-    opening.row
+// Opens a hub; what it answers is seen in what it says next.
+fn open(list: &[Record; 3], store: &[u8; 60], row: &mut [SlotBytes; 8], tables: &mut [Table; 8]) {
+    let answer = state::new(list, store, row, tables);
 }
 
 fn process(
-    list: &mut [[u8; 32]; 3],
+    list: &mut [Record; 3],
     store: &mut [u8; 60],
-    row: [Slot; 8],
-    tables: &mut [[u8; 640]; 8],
+    row: &[SlotBytes; 8],
+    tables: &mut [Table; 8],
     rq: Request,
     d: &[u8],
     out: &mut [u8],
@@ -74,7 +78,7 @@ fn process(
         offset: 0,
         len: 0,
     };
-    let mut bytes = [0u8; 512];
+    let mut bytes = [0u8; VALUE_SIZE];
     let r = attribute_server::request::process(
         list,
         store,
@@ -95,9 +99,10 @@ fn process(
 fn say_request(rq: Request, d: &[u8], out: &mut [u8]) {
     let mut list = [entry(1, 0, 5), entry(2, 20, 5), entry(3, 40, 6)];
     let mut store = *b"AAAAA...............BBBBB...............CCCCCC..............";
-    let mut tables = [[0u8; 640]; 8];
-    let row = open(&list, &mut tables);
-    let a = process(&mut list, &mut store, row, &mut tables, rq, d, out);
+    let mut tables = [[0u8; TABLE_SIZE]; 8];
+    let mut row = [[0u8; SLOT_SIZE]; 8];
+    open(&list, &store, &mut row, &mut tables);
+    let a = process(&mut list, &mut store, &row, &mut tables, rq, d, out);
     say_answer(out, a);
     line();
 }
@@ -121,56 +126,70 @@ pub fn request_facts() {
     say_request(Request::Ask(Ask::ReadByType(all)), &seven, &mut longer);
 }
 
-fn connect(list: &[[u8; 32]; 3], row: [Slot; 8], tables: &mut [[u8; 640]; 8], n: u8) -> Joining {
-    attribute_server::connection::connect(list, 60, row, tables, tablet(n))
+fn connect(
+    list: &[Record; 3],
+    store: &[u8; 60],
+    row: &mut [SlotBytes; 8],
+    tables: &mut [Table; 8],
+    n: u8,
+) -> Answer {
+    attribute_server::connection::connect(list, store, row, tables, tablet(n))
 }
 
-fn joined(list: &[[u8; 32]; 3], row: [Slot; 8], tables: &mut [[u8; 640]; 8], n: u8) -> [Slot; 8] {
-    let r = connect(list, row, tables, n);
-    r.row
+// Two tablets connect; and eight, one after another.
+fn two(
+    list: &[Record; 3],
+    store: &[u8; 60],
+    row: &mut [SlotBytes; 8],
+    tables: &mut [Table; 8],
+    n: u8,
+    m: u8,
+) {
+    let first = connect(list, store, row, tables, n);
+    let second = connect(list, store, row, tables, m);
 }
 
-fn eight(list: &[[u8; 32]; 3], empty: [Slot; 8], tables: &mut [[u8; 640]; 8]) -> [Slot; 8] {
-    let one = joined(list, empty, tables, 1);
-    let two = joined(list, one, tables, 2);
-    let three = joined(list, two, tables, 3);
-    let four = joined(list, three, tables, 4);
-    let five = joined(list, four, tables, 5);
-    let six = joined(list, five, tables, 6);
-    let seven = joined(list, six, tables, 7);
-    joined(list, seven, tables, 8)
-}
-
-// The first byte of the address in a slot.
-fn say_owner(row: [Slot; 8]) {
-    let s = row[2];
-    let id = s.id;
-    let addr = id.addr;
-    table_printer::print_hex(&[addr[0]]);
+fn eight(list: &[Record; 3], store: &[u8; 60], row: &mut [SlotBytes; 8], tables: &mut [Table; 8]) {
+    two(list, store, row, tables, 1, 2);
+    two(list, store, row, tables, 3, 4);
+    two(list, store, row, tables, 5, 6);
+    two(list, store, row, tables, 7, 8);
 }
 
 // Nine tablets, and one of eight gone.
 pub fn slot_facts() {
     let list = [entry(1, 0, 5), entry(2, 20, 5), entry(3, 40, 6)];
-    let mut tables = [[0u8; 640]; 8];
-    let empty = open(&list, &mut tables);
-    let row = eight(&list, empty, &mut tables);
+    let store = [0u8; 60];
+    let mut row = [[0u8; SLOT_SIZE]; 8];
+    let mut tables = [[0u8; TABLE_SIZE]; 8];
+    open(&list, &store, &mut row, &mut tables);
+    eight(&list, &store, &mut row, &mut tables);
     say(b"Ninth connected tablet: ");
-    let ninth = connect(&list, row, &mut tables, 9);
-    let full = ninth.answer;
+    let full = connect(&list, &store, &mut row, &mut tables, 9);
     say_answer(b"", full);
-    let left = leave(&list, row, &mut tables, 3);
-    let again = connect(&list, left, &mut tables, 9);
-    let taken = again.answer;
+    leave(&list, &store, &mut row, &mut tables, 3);
+    let taken = connect(&list, &store, &mut row, &mut tables, 9);
     say(b"; with tablet 3 gone and bonded: ");
     say_answer(b"", taken);
     say(b", the third slot is tablet ");
-    let after = again.row;
-    say_owner(after);
+    let third = row[2];
+    table_printer::print_hex(&[third[1]]);
     line();
 }
 
-fn leave(list: &[[u8; 32]; 3], row: [Slot; 8], tables: &mut [[u8; 640]; 8], n: u8) -> [Slot; 8] {
-    let r = attribute_server::connection::disconnect(list, 60, row, tables, tablet(n), true);
-    r.row
+fn leave(
+    list: &[Record; 3],
+    store: &[u8; 60],
+    row: &mut [SlotBytes; 8],
+    tables: &mut [Table; 8],
+    n: u8,
+) {
+    let answer = attribute_server::connection::disconnect(
+        list,
+        store,
+        row,
+        tables,
+        tablet(n),
+        true,
+    );
 }

@@ -8,32 +8,34 @@ use say::say_outcome;
 use say::say_pushed;
 use say::say_value;
 use table_view::Key;
+use wire::sizes::TABLE_SIZE;
+use wire::sizes::Table;
 
 // T: key 3 fixed 2 and key 5 variable 8.
-fn table_t() -> [u8; 640] {
+fn table_t() -> Table {
     let mut b = table_builder::new();
     table_builder::push(&mut b, Key(3), 2, false);
     table_builder::push(&mut b, Key(5), 8, true);
-    let mut t = [0u8; 640];
+    let mut t = [0u8; TABLE_SIZE];
     table_builder::build(&b, &mut t);
     t
 }
 
 // The bytes of a table, what a key of it reads, and its lines.
-fn say_bytes(t: &[u8; 640]) {
+fn say_bytes(t: &Table) {
     say_value(t, table_view::raw(t));
 }
 
-fn say_key(t: &[u8; 640], key: Key) {
+fn say_key(t: &Table, key: Key) {
     say_value(t, table_view::get(t, key));
 }
 
-fn print(t: &[u8; 640]) {
+fn print(t: &Table) {
     table_printer::print_table(t);
 }
 
 // What a write of d to key 5 of a copy of the table answers, and what 5 reads then.
-fn say_write(t: &[u8; 640], offset: usize, d: &[u8]) {
+fn say_write(t: &Table, offset: usize, d: &[u8]) {
     let mut copy = *t;
     say_outcome(client_att_table::write(&mut copy, Key(5), offset, d));
     say(b"; 5 reads ");

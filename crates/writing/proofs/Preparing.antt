@@ -8,6 +8,7 @@ use lib.ListN.{length, take}
 use lib.Seq.{sets, length-take-le}
 use lib.Dec.{eqb, ltb}
 use borrow.Author.Tests.{eq-eqb, ne-eqb, lt-ltb, le-ltb, leb-true, ltb-false}
+use Rattle.wire.specs.Size.{valueBytes}
 use Rattle.wire.specs.Number.{wordBytes}
 use Rattle.wire.specs.Cursor.{put, moved}
 use Rattle.wire.specs.declared.cursor.WriteCursor.{WriteCursor}
@@ -25,21 +26,21 @@ use Rattle.response.proofs.Errors.{one-byte}
 
 -- the rule
 module _ (len n : ℕ) where
-  pub too-long : 512 < len + n → Denied 0x09 ≡ sizeRule len n
+  pub too-long : valueBytes < len + n → Denied 0x09 ≡ sizeRule len n
   unfolding sizeRule
-  too-long l = rw (lt-ltb 512 (len + n) l)
+  too-long l = rw (lt-ltb valueBytes (len + n) l)
 
-  pub goes-in : len + n ≤ 512 → Granted ≡ sizeRule len n
+  pub goes-in : len + n ≤ valueBytes → Granted ≡ sizeRule len n
   unfolding sizeRule
-  goes-in l = rw (le-ltb 512 (len + n) l)
+  goes-in l = rw (le-ltb valueBytes (len + n) l)
 
-  by : (t : Bool) → ltb 512 (len + n) ≡ t → cond t (Denied 0x09) Granted ≡ Granted → len + n ≤ 512
+  by : (t : Bool) → ltb valueBytes (len + n) ≡ t → cond t (Denied 0x09) Granted ≡ Granted → len + n ≤ valueBytes
   by true e h = let z : _≡_ {A = ℕ} 0 1 = cc in absurd (omega arith)
   by false e h = ltb-false _ _ e
 
-  has-gone-in : sizeRule len n ≡ Granted → len + n ≤ 512
+  has-gone-in : sizeRule len n ≡ Granted → len + n ≤ valueBytes
   unfolding sizeRule
-  has-gone-in h = by (ltb 512 (len + n)) refl h
+  has-gone-in h = by (ltb valueBytes (len + n)) refl h
 
 module _ (p : Prepared) (h off n : ℕ) where
   pub no-handle : h ≡ 0 → Denied 0x01 ≡ mayPrepare p h off n
@@ -73,7 +74,7 @@ module _ (p : Prepared) (h off n : ℕ) where
   picked false false true false x e = cc
   picked false false false d x e = cc
 
-  pub granted-fits : mayPrepare p h off n ≡ Granted → p .len + n ≤ 512
+  pub granted-fits : mayPrepare p h off n ≡ Granted → p .len + n ≤ valueBytes
   unfolding prepareRule
   granted-fits e = has-gone-in (p .len) n (picked (eqb h 0) (eqb (p .handle) 0) (eqb (p .handle) h) (eqb off (p .offset + p .len)) (sizeRule (p .len) n) e)
 
@@ -111,7 +112,7 @@ echoed old o₁ o₂ o₃ o₄ d h off c₀ c₁ c₂ c₃ c₄ room z e₁ p₁
     sent old o₄ _ c₀ c₄ z (wrote-next old o₃ o₄ ((0x17 ∷ wordBytes h) ++ wordBytes off) d c₀ c₃ c₄ e (omega arith) e₄ p₄)
 
 -- a valid record: at most 512 bytes
-pub record-fits : (p : Prepared) → recordOk p ≡ true → p .len ≤ 512
+pub record-fits : (p : Prepared) → recordOk p ≡ true → p .len ≤ valueBytes
 unfolding recordOk
 record-fits p h = leb-true _ _ (both-l _ _ h)
 

@@ -4,13 +4,15 @@ ghost use mathlib.Core.Bool.{true};
 ghost use mathlib.Core.List.{[]};
 ghost use Prim.Native.Nat.{_+_, _^_, _≤_, _<_};
 ghost use lib.ListN.{length};
+ghost use Rattle.wire.specs.Size.{valueBytes};
 ghost use Rattle.table_view.specs.Told.{value};
+ghost use Rattle.state.specs.State.{Becomes};
 ghost use Rattle.state.specs.Valid.{recordOk};
 ghost use Rattle.model.specs.declared.Change.the-variants.{PrepareWrite, ExecuteWrite};
 ghost use Rattle.model.specs.View.{pendingOf, tableAt, viewOf};
 ghost use Rattle.model.specs.Answer.{Sent, sizeRule, doneRsp, echoRsp, executeAccess, changeTold};
 ghost use Rattle.model.specs.Told.{Answered};
-ghost use Rattle.model.specs.Change.{lent, Left, longer, mayPrepare, noRecord, lentAfter, recordAfter, dataAfter};
+ghost use Rattle.model.specs.Change.{longer, mayPrepare, noRecord, stateAfter, recordAfter, dataAfter};
 ghost use Rattle.storing.specs.Ready.{Ready};
 ghost use Rattle.writing.specs.Fits.{Fits};
 use crate::Changed;
@@ -21,13 +23,16 @@ use model::Change;
 use state::Prepared;
 use wire::Found;
 use wire::cursor::WriteCursor;
+use wire::sizes::Record;
+use wire::sizes::Table;
+use wire::sizes::VALUE_SIZE;
 
 // Whether n bytes more go into the 512 of a prepared write.
 fn has_room(len: u16, n: usize) -> Access
     requires { ⌜ n < 2 ^ 63 ⌝ }
     ensures { λ r. ⌜ r ≡ sizeRule len n ⌝ }
 {
-    if 512 < len as usize + n {
+    if VALUE_SIZE < len as usize + n {
         return Access::Denied(0x09);
     }
     Access::Granted
@@ -55,7 +60,7 @@ fn may_prepare(p: Prepared, handle: u16, offset: u16, n: usize) -> Access
 
 // The prepared write with n bytes more.
 fn grow(p: Prepared, handle: u16, offset: u16, n: u16) -> Prepared
-    requires { ⌜ p .len + n ≤ 512 ⌝ }
+    requires { ⌜ p .len + n ≤ valueBytes ⌝ }
     ensures { λ r. ⌜ r ≡ longer p handle offset n ⌝ }
 {
     if p.handle == 0 {
@@ -93,7 +98,7 @@ fn prepare(
     d: &[u8],
     out: &mut [u8],
 ) -> Changed
-    requires { ⌜ (recordOk p ≡ true) × (5 + length (now d) ≤ length (now out)) × (length (now bytes) ≡ 512) ⌝ }
+    requires { ⌜ (recordOk p ≡ true) × (5 + length (now d) ≤ length (now out)) × (length (now bytes) ≡ valueBytes) ⌝ }
     ensures { λ r. ⌜ (r .prepared ≡ recordAfter p (PrepareWrite handle offset) (length (now (d .entry))))
         × (now (bytes .exit) ≡ dataAfter p (now (bytes .entry)) (PrepareWrite handle offset) (now (d .entry)))
         × Answered (now (out .entry)) (now (out .exit)) (r .answer) (value (doneRsp (echoRsp handle offset (now (d .entry))) 0x16 handle (mayPrepare p handle offset (length (now (d .entry)))))) ⌝ }
@@ -115,9 +120,9 @@ fn prepare(
 
 // What Execute Write writes: with flags 1 what is pending, else nothing.
 fn commit(
-    list: &mut [[u8; 32]],
+    list: &mut [Record],
     store: &mut [u8],
-    tables: &mut [[u8; 640]],
+    tables: &mut [Table],
     slot: Found,
     link: Link,
     p: Prepared,
@@ -126,7 +131,7 @@ fn commit(
 ) -> Access
     requires { ⌜ Ready (now list) (length (now store)) (now tables) slot × (p .len ≤ length (now bytes)) ⌝ }
     ensures { λ r. ⌜ (r ≡ executeAccess (viewOf link (now (list .entry)) (now (store .entry)) (tableAt (now (tables .entry)) slot) (pendingOf p (now (bytes .entry)))) flags)
-        × Left (lentAfter link (lent (now (list .entry)) (now (store .entry)) (now (tables .entry))) slot (pendingOf p (now (bytes .entry))) (ExecuteWrite flags) []) (now (list .exit)) (now (store .exit)) (now (tables .exit)) ⌝ }
+        × Becomes (λ s. stateAfter link s slot (pendingOf p (now (bytes .entry))) (ExecuteWrite flags) []) (now (list .entry)) (now (store .entry)) (now (tables .entry)) (now (list .exit)) (now (store .exit)) (now (tables .exit)) ⌝ }
 {
     if flags != 1 {
         return Access::Granted;
@@ -170,9 +175,9 @@ pub fn with_record(p: Prepared, answer: Answer) -> Changed
 
 // Any of the four. Only Write Command is never answered.
 pub fn change(
-    list: &mut [[u8; 32]],
+    list: &mut [Record],
     store: &mut [u8],
-    tables: &mut [[u8; 640]],
+    tables: &mut [Table],
     slot: Found,
     link: Link,
     p: Prepared,
@@ -182,10 +187,10 @@ pub fn change(
     out: &mut [u8],
 ) -> Changed
     requires { ⌜ Ready (now list) (length (now store)) (now tables) slot × (recordOk p ≡ true) ⌝ }
-    requires { ⌜ (length (now bytes) ≡ 512) × (5 ≤ length (now out)) × Fits rq (length (now d)) (length (now out)) ⌝ }
+    requires { ⌜ (length (now bytes) ≡ valueBytes) × (5 ≤ length (now out)) × Fits rq (length (now d)) (length (now out)) ⌝ }
     ensures { λ r. ⌜ (r .prepared ≡ recordAfter p rq (length (now (d .entry))))
         × (now (bytes .exit) ≡ dataAfter p (now (bytes .entry)) rq (now (d .entry)))
-        × Left (lentAfter link (lent (now (list .entry)) (now (store .entry)) (now (tables .entry))) slot (pendingOf p (now (bytes .entry))) rq (now (d .entry))) (now (list .exit)) (now (store .exit)) (now (tables .exit))
+        × Becomes (λ s. stateAfter link s slot (pendingOf p (now (bytes .entry))) rq (now (d .entry))) (now (list .entry)) (now (store .entry)) (now (tables .entry)) (now (list .exit)) (now (store .exit)) (now (tables .exit))
         × Answered (now (out .entry)) (now (out .exit)) (r .answer) (changeTold (viewOf link (now (list .entry)) (now (store .entry)) (tableAt (now (tables .entry)) slot) (pendingOf p (now (bytes .entry)))) rq (now (d .entry))) ⌝ }
 {
     match rq {

@@ -10,13 +10,13 @@ is-record-requires : tie.Need-is-record-requires
 is-record-requires c κs = search needs
 
 returns : tie.Need-returns
-returns c = bad-record _ _ _ _ _ (sym (c .before .is-record .ensures) ∙ not-true _ (c .if1 .taken))
+returns c = bad-record _ _ (sym (c .before .is-record .ensures) ∙ not-true _ (c .if1 .taken))
 
 is-valid-requires : tie.Need-is-valid-requires
 is-valid-requires c κs = search needs
 
 returns-2 : tie.Need-returns-2
-returns-2 c = c .is-valid .ensures ∙ by-rest _ _ _ _ _ (sym (c .before .before .is-record .ensures) ∙ not-false _ (c .before .if1 .left))
+returns-2 c = c .is-valid .ensures ∙ by-rest _ _ (sym (c .before .before .is-record .ensures) ∙ not-false _ (c .before .if1 .left))
 
 pub is-valid-with-spec : {M : Type 1} → statement M
 is-valid-with-spec = tie.close (tie.spec is-record-requires returns is-valid-requires returns-2)

@@ -19,9 +19,9 @@ copy-requires c κs = search needs
 
 returns-2 : tie.Need-returns-2
 returns-2 c =
-    built _ _ _
-    (sym (c .before .before .before .before .is-builder .ensures) ∙ not-false _ (c .before .before .before .if1 .left))
-    (omega arith) (c .copy .ensures)
+    let at-if1 = c .before .before .before in
+    let at-is-builder = at-if1 .before in
+    built _ _ _ (sym (at-is-builder .is-builder .ensures) ∙ not-false _ (at-if1 .if1 .left)) (omega arith) (c .copy .ensures)
 
 pub build-spec : {M : Type 1} → statement M
 build-spec = tie.close (tie.spec is-builder-requires returns copy-requires returns-2)

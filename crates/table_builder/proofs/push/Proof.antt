@@ -19,20 +19,23 @@ enum-told c = search needs
 
 add-requires : tie.Need-add-requires
 add-requires c κs =
-    let a = adds _ _ _ _ (sym (c .before .before .before .judge .ensures) ∙ c .before .enum-told .given .1) in
+    let at-judge = c .before .before .before in
+    let a = adds _ _ _ _ (sym (at-judge .judge .ensures) ∙ c .before .enum-told .given .1) in
     omega (arith, a .key, a .room)
 
 returns : tie.Need-returns
-returns c = (
-  ap toldPushed (c .before .before .before .before .judge .ensures),
-  rw (sym (c .before .before .before .before .judge .ensures) ∙ c .before .before .enum-told .given .1) (c .add .ensures),
-)
+returns c =
+    let at-judge = c .before .before .before .before in (
+      ap toldPushed (at-judge .judge .ensures),
+      rw (sym (at-judge .judge .ensures) ∙ c .before .before .enum-told .given .1) (c .add .ensures),
+    )
 
 returns-2 : tie.Need-returns-2
-returns-2 c = (
-  ap toldPushed (c .before .judge .ensures),
-  stays _ _ _ (λ e. miss (1 ∷ 2 ∷ 3 ∷ []) 0 tt (rw (c .before .judge .ensures ∙ e) at (c .match .keys2))),
-)
+returns-2 c =
+    let at-judge = c .before in (
+      ap toldPushed (at-judge .judge .ensures),
+      stays _ _ _ (λ e. miss (1 ∷ 2 ∷ 3 ∷ []) 0 tt (rw (at-judge .judge .ensures ∙ e) at (c .match .keys2))),
+    )
 
 pub push-spec : {M : Type 1} → statement M
 push-spec = tie.close (tie.spec judge-requires enum-told add-requires returns returns-2)

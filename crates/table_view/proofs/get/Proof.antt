@@ -15,10 +15,14 @@ use denote.Ref.{now}
 use Rattle.table_view.proofs.get.Statement.{statement}
 use Rattle.table_view.proofs.get.Tie as tie
 
-ok : (c : tie.Else1) → accepts (now (c .before .before .before .args .table)) ≡ true
+ok : (c : tie.Else1) →
+    let at-start = c .before .before .before in
+    accepts (now (at-start .args .table)) ≡ true
 ok c = sym (c .before .is-table .ensures) ∙ not-false _ (c .if1 .left)
 
-at : (c : tie.After-p) → placeOf (now (c .before .before .before .before .before .before .args .table)) (c .before .before .before .before .before .before .args .key .0) ≡ At (c .p .given .0 .0)
+at : (c : tie.After-p) →
+    let at-start = c .before .before .before .before .before .before in
+    placeOf (now (at-start .args .table)) (at-start .args .key .0) ≡ At (c .p .given .0 .0)
 at c = sym (c .before .before .find .ensures) ∙ c .p .given .1
 
 is-table-requires : tie.Need-is-table-requires
@@ -26,8 +30,9 @@ is-table-requires c κs = search needs
 
 returns : tie.Need-returns
 returns c =
+    let at-start = c .before .before .before in
     let e = got-refused _ _ (sym (c .before .is-table .ensures) ∙ not-true _ (c .if1 .taken)) in
-    (e, ap (toldGot (now (c .before .before .before .args .table))) e ∙ get-told _ _)
+    (e, ap (toldGot (now (at-start .args .table))) e ∙ get-told _ _)
 
 find-requires : tie.Need-find-requires
 find-requires c κs = ok c
@@ -40,27 +45,34 @@ enum-told c = search needs
 
 returns-2 : tie.Need-returns-2
 returns-2 c =
-    let e = got-nothing _ _ (ok (c .before .before .before)) (sym (c .before .before .find .ensures) ∙ c .enum-told .given .1) in
-    (e, ap (toldGot (now (c .before .before .before .before .before .before .args .table))) e ∙ get-told _ _)
+    let at-if1 = c .before .before .before in
+    let at-start = at-if1 .before .before .before in
+    let e = got-nothing _ _ (ok at-if1) (sym (c .before .before .find .ensures) ∙ c .enum-told .given .1) in
+    (e, ap (toldGot (now (at-start .args .table))) e ∙ get-told _ _)
 
 value-start-requires : tie.Need-value-start-requires
 value-start-requires c κs =
+    let at-if1 = c .before .before .before .before in
     let i = placed _ _ _ (at (c .before)) .inside in
-    omega (arith, fits _ (ok (c .before .before .before .before)))
+    omega (arith, fits _ (ok at-if1))
 
 value-len-requires : tie.Need-value-len-requires
 value-len-requires c κs =
+    let at-if1 = c .before .before .before .before .before in
     let i = placed _ _ _ (at (c .before .before)) .inside in
-    let e = entry-at _ (ok (c .before .before .before .before .before)) _ i in
-    omega (arith, fits _ (ok (c .before .before .before .before .before)))
+    let e = entry-at _ (ok at-if1) _ i in
+    omega (arith, fits _ (ok at-if1))
 
 add-t9 : tie.Need-add-t9
 add-t9 c = search needs
 
 returns-3 : tie.Need-returns-3
 returns-3 c =
-    let e = got-value _ _ _ _ _ (ok (c .before .before .before .before .before .before)) (at (c .before .before .before)) (c .before .value-start .ensures .0) (c .value-len .ensures .0) in
-    (e, ap (toldGot (now (c .before .before .before .before .before .before .before .before .before .args .table))) e ∙ get-told _ _)
+    let at-p = c .before .before .before in
+    let at-if1 = at-p .before .before .before in
+    let at-start = at-if1 .before .before .before in
+    let e = got-value _ _ _ _ _ (ok at-if1) (at at-p) (c .before .value-start .ensures .0) (c .value-len .ensures .0) in
+    (e, ap (toldGot (now (at-start .args .table))) e ∙ get-told _ _)
 
 pub get-spec : {M : Type 1} → statement M
 get-spec =

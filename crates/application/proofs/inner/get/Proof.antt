@@ -13,7 +13,9 @@ use Rattle.application.proofs.Calls.{not-listed, fetched}
 use Rattle.application.proofs.inner.get.Statement.{statement}
 use Rattle.application.proofs.inner.get.Tie as tie
 
-at : (c : tie.After-i) → placeOf (now (c .before .before .before .before .before .args .list)) (c .before .before .before .before .before .args .handle) ≡ At (c .i .given .0 .0)
+at : (c : tie.After-i) →
+    let at-start = c .before .before .before .before .before in
+    placeOf (now (at-start .args .list)) (at-start .args .handle) ≡ At (c .i .given .0 .0)
 at c = sym (c .before .before .find-listed .ensures) ∙ c .i .given .1
 
 find-listed-requires : tie.Need-find-listed-requires
@@ -27,20 +29,30 @@ enum-told c = search needs
 
 returns : tie.Need-returns
 returns c =
-    let a = c .before .before .before .before .before .args in
-    not-listed (now (a .list)) (now (a .store)) (tableAt (now (a .tables)) (a .slot)) _ (now (a .out)) (sym (c .before .before .find-listed .ensures) ∙ c .enum-told .given .1)
+    let at-start = c .before .before .before .before .before in
+    let a = at-start .args in
+    not-listed (now (a .list)) (now (a .store)) (tableAt (now (a .tables)) (a .slot)) _ (now (a .out))
+    (sym (c .before .before .find-listed .ensures) ∙ c .enum-told .given .1)
 
 enum-known-slot : tie.Need-enum-known-slot
 enum-known-slot c = search needs
 
 mul-copy-value : tie.Need-mul-copy-value
-mul-copy-value c = omega (arith, slot-there _ _ (c .before .before .before .before .before .before .before .before .before .pre .own) _ (c .before .slot .given .1), c .before .before .before .before .before .before .before .before .before .pre .own .tables .eight)
+mul-copy-value c =
+    let at-start = c .before .before .before .before .before .before .before .before .before in
+    omega (arith, slot-there _ _ (at-start .pre .own) _ (c .before .slot .given .1), at-start .pre .own .tables .eight)
 
 shared-slice-element-copy-value : tie.Need-shared-slice-element-copy-value
-shared-slice-element-copy-value c = slot-there _ _ (c .before .before .before .before .before .before .before .before .before .pre .own) _ (c .before .slot .given .1)
+shared-slice-element-copy-value c =
+    let at-start = c .before .before .before .before .before .before .before .before .before in
+    slot-there _ _ (at-start .pre .own) _ (c .before .slot .given .1)
 
 copy-value-requires : tie.Need-copy-value-requires
-copy-value-requires c κs = (listed _ _ _ (at (c .before .before .before .before .before .before .before)), own-table _ _ _ _ (c .before .before .before .before .before .before .before .before .before .before .before .before .pre) _ (c .before .before .before .before .slot .given .1))
+copy-value-requires c κs =
+    let at-slot = c .before .before .before .before in
+    let at-i = at-slot .before .before .before in
+    let at-start = at-i .before .before .before .before .before in
+    (listed _ _ _ (at at-i), own-table _ _ _ _ (at-start .pre) _ (at-slot .slot .given .1))
 
 copied-requires : tie.Need-copied-requires
 copied-requires c κs = search needs
@@ -52,7 +64,10 @@ slice-aggregate-copy-value : tie.Need-slice-aggregate-copy-value
 slice-aggregate-copy-value c = search needs
 
 copy-value-requires-2 : tie.Need-copy-value-requires-2
-copy-value-requires-2 c κs = (listed _ _ _ (at (c .before .before .before .before .before)), empty-table _ _ _ _ (c .before .before .before .before .before .before .before .before .before .before .pre))
+copy-value-requires-2 c κs =
+    let at-i = c .before .before .before .before .before in
+    let at-start = at-i .before .before .before .before .before in
+    (listed _ _ _ (at at-i), empty-table _ _ _ _ (at-start .pre))
 
 copied-requires-2 : tie.Need-copied-requires-2
 copied-requires-2 c κs = search needs
@@ -62,16 +77,26 @@ same-length c = search needs
 
 returns-2 : tie.Need-returns-2
 returns-2 c =
-    let a = c .before .before .before .before .before .before .before .before .before .before .before .before .before .before .before .before .args in
-    fetched (now (a .list)) (now (a .store)) (tableAt (now (a .tables)) (a .slot)) _ (now (a .out)) _ (at (c .before .before .before .before .before .before .before .before .before .before .before)) _ (table-there _ _ _ (c .before .before .before .before .before .before .before .before .slot .given .1)) _ _ _ (c .copied .ensures) (c .before .before .before .copy-value .ensures)
+    let at-copy-value = c .before .before .before in
+    let at-slot = at-copy-value .before .before .before .before .before in
+    let at-i = at-slot .before .before .before in
+    let at-start = at-i .before .before .before .before .before in
+    let a = at-start .args in
+    fetched (now (a .list)) (now (a .store)) (tableAt (now (a .tables)) (a .slot)) _ (now (a .out)) _ (at at-i) _
+    (table-there _ _ _ (at-slot .slot .given .1)) _ _ _ (c .copied .ensures) (at-copy-value .copy-value .ensures)
 
 same-length-2 : tie.Need-same-length-2
 same-length-2 c = search needs
 
 returns-3 : tie.Need-returns-3
 returns-3 c =
-    let a = c .before .before .before .before .before .before .before .before .before .before .before .before .before .before .args in
-    fetched (now (a .list)) (now (a .store)) (tableAt (now (a .tables)) (a .slot)) _ (now (a .out)) _ (at (c .before .before .before .before .before .before .before .before .before)) _ (table-none _ _ (c .before .before .before .before .before .before .enum-told2 .given .1)) _ _ _ (c .copied2 .ensures) (c .before .before .before .copy-value2 .ensures)
+    let at-copy-value2 = c .before .before .before in
+    let at-told2 = at-copy-value2 .before .before .before in
+    let at-i = at-told2 .before .before .before in
+    let at-start = at-i .before .before .before .before .before in
+    let a = at-start .args in
+    fetched (now (a .list)) (now (a .store)) (tableAt (now (a .tables)) (a .slot)) _ (now (a .out)) _ (at at-i) _
+    (table-none _ _ (at-told2 .enum-told2 .given .1)) _ _ _ (c .copied2 .ensures) (at-copy-value2 .copy-value2 .ensures)
 
 pub get-spec : {M : Type 1} → statement M
 get-spec =

@@ -17,21 +17,29 @@ returns : tie.Need-returns
 returns c = search needs
 
 mul-copy : tie.Need-mul-copy
-mul-copy c = omega (arith, slot-there _ _ (c .before .before .before .before .before .pre .0) _ (c .before .before .slot .given .1), c .before .before .before .before .before .pre .0 .tables .eight)
+mul-copy c =
+    let at-start = c .before .before .before .before .before in
+    omega (arith, slot-there _ _ (at-start .pre .0) _ (c .before .before .slot .given .1), at-start .pre .0 .tables .eight)
 
 shared-slice-element-copy : tie.Need-shared-slice-element-copy
-shared-slice-element-copy c = slot-there _ _ (c .before .before .before .before .before .pre .0) _ (c .before .before .slot .given .1)
+shared-slice-element-copy c =
+    let at-start = c .before .before .before .before .before in
+    slot-there _ _ (at-start .pre .0) _ (c .before .before .slot .given .1)
 
 copy-requires : tie.Need-copy-requires
-copy-requires c κs = omega (arith, c .before .before .before .before .before .before .before .pre .1)
+copy-requires c κs =
+    let at-start = c .before .before .before .before .before .before .before in
+    omega (arith, at-start .pre .1)
 
 same-length : tie.Need-same-length
 same-length c = search needs
 
 returns-2 : tie.Need-returns-2
 returns-2 c =
-    let o = c .before .before .before .before .before .before .before .before .before .before in
-    table-copied _ _ (now (o .args .out)) _ (c .before .before .before .before .before .before .before .slot .given .1) (search needs) (o .pre .1) _ (c .before .before .copy .ensures)
+    let at-slot = c .before .before .before .before .before .before .before in
+    let at-start = at-slot .before .before .before in
+    table-copied _ _ (now (at-start .args .out)) _ (at-slot .slot .given .1) (search needs) (at-start .pre .1) _
+    (c .before .before .copy .ensures)
 
 pub get-client-att-table-spec : {M : Type 1} → statement M
 get-client-att-table-spec =

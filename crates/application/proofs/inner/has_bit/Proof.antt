@@ -9,7 +9,9 @@ use Rattle.application.proofs.Peers.{no-value, another-length, two-byte
 use Rattle.application.proofs.inner.has_bit.Statement.{statement}
 use Rattle.application.proofs.inner.has_bit.Tie as tie
 
-at : (c : tie.After-p) → placeOf (now (c .before .before .before .before .args .table)) (c .before .before .before .before .args .handle) ≡ At (c .p .given .0 .0)
+at : (c : tie.After-p) →
+    let at-start = c .before .before .before .before in
+    placeOf (now (at-start .args .table)) (at-start .args .handle) ≡ At (c .p .given .0 .0)
 at c = sym (c .before .before .find .ensures) ∙ c .p .given .1
 
 find-requires : tie.Need-find-requires
@@ -25,10 +27,15 @@ returns : tie.Need-returns
 returns c = no-value _ _ _ (sym (c .before .before .find .ensures) ∙ c .enum-told .given .1)
 
 value-requires : tie.Need-value-requires
-value-requires c κs = (c .before .before .before .before .before .pre .0, placed _ _ _ (at (c .before)) .inside)
+value-requires c κs =
+    let at-start = c .before .before .before .before .before in
+    (at-start .pre .0, placed _ _ _ (at (c .before)) .inside)
 
 returns-2 : tie.Need-returns-2
-returns-2 c = another-length _ _ _ _ (at (c .before .before .before)) (c .before .value .result .now) (c .before .value .ensures) (c .if1 .taken)
+returns-2 c =
+    let at-value = c .before in
+    let at-p = at-value .before .before in
+    another-length _ _ _ _ (at at-p) (at-value .value .result .now) (at-value .value .ensures) (c .if1 .taken)
 
 shared-slice-read-result : tie.Need-shared-slice-read-result
 shared-slice-read-result c = search needs
@@ -37,7 +44,10 @@ div-result : tie.Need-div-result
 div-result c = search needs
 
 returns-3 : tie.Need-returns-3
-returns-3 c = two-bytes _ _ _ _ (at (c .before .before .before .before)) (c .before .before .value .result .now) (c .before .before .value .ensures) (c .before .if1 .left)
+returns-3 c =
+    let at-value = c .before .before in
+    let at-p = at-value .before .before in
+    two-bytes _ _ _ _ (at at-p) (at-value .value .result .now) (at-value .value .ensures) (c .before .if1 .left)
 
 pub has-bit-spec : {M : Type 1} → statement M
 has-bit-spec =

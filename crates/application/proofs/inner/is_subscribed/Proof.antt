@@ -17,16 +17,25 @@ returns : tie.Need-returns
 returns c = no-subscription _ _ _ _ (c .enum-told .given .1)
 
 mul-has-bit : tie.Need-mul-has-bit
-mul-has-bit c = omega (arith, slot-there _ _ (c .before .before .before .pre .0) _ (c .before .slot .given .1), c .before .before .before .pre .0 .tables .eight)
+mul-has-bit c =
+    let at-start = c .before .before .before in
+    omega (arith, slot-there _ _ (at-start .pre .0) _ (c .before .slot .given .1), at-start .pre .0 .tables .eight)
 
 shared-slice-element-has-bit : tie.Need-shared-slice-element-has-bit
-shared-slice-element-has-bit c = slot-there _ _ (c .before .before .before .pre .0) _ (c .before .slot .given .1)
+shared-slice-element-has-bit c =
+    let at-start = c .before .before .before in
+    slot-there _ _ (at-start .pre .0) _ (c .before .slot .given .1)
 
 has-bit-requires : tie.Need-has-bit-requires
-has-bit-requires c κs = (slot-accepts _ _ (c .before .before .before .before .before .pre .0) _ (c .before .before .before .slot .given .1), c .before .before .before .before .before .pre .1)
+has-bit-requires c κs =
+    let at-slot = c .before .before .before in
+    let at-start = at-slot .before .before in
+    (slot-accepts _ _ (at-start .pre .0) _ (at-slot .slot .given .1), at-start .pre .1)
 
 returns-2 : tie.Need-returns-2
-returns-2 c = c .has-bit .ensures ∙ in-slot _ _ _ _ _ (c .before .before .before .before .slot .given .1)
+returns-2 c =
+    let at-slot = c .before .before .before .before in
+    c .has-bit .ensures ∙ in-slot _ _ _ _ _ (at-slot .slot .given .1)
 
 pub is-subscribed-spec : {M : Type 1} → statement M
 is-subscribed-spec =

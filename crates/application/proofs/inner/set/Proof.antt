@@ -10,11 +10,15 @@ use Rattle.application.proofs.Calls.{nothing-set, wrong-length, value-s
 use Rattle.application.proofs.inner.set.Statement.{statement}
 use Rattle.application.proofs.inner.set.Tie as tie
 
-at : (c : tie.After-i) → placeOf (now (c .before .before .before .before .before .before .args .list)) (c .before .before .before .before .before .before .args .handle) ≡ At (c .i .given .0 .0)
+at : (c : tie.After-i) →
+    let at-start = c .before .before .before .before .before .before in
+    placeOf (now (at-start .args .list)) (at-start .args .handle) ≡ At (c .i .given .0 .0)
 at c = sym (c .before .before .find-listed .ensures) ∙ c .i .given .1
 
 find-listed-requires : tie.Need-find-listed-requires
-find-listed-requires c κs = ascending _ _ (c .before .before .before .pre .right)
+find-listed-requires c κs =
+    let at-start = c .before .before .before in
+    ascending _ _ (at-start .pre .right)
 
 enum-known-i : tie.Need-enum-known-i
 enum-known-i c = search needs
@@ -27,8 +31,10 @@ same-length c = search needs
 
 returns : tie.Need-returns
 returns c =
-    let a = c .before .before .before .before .before .before .args in
-    nothing-set (now (a .list)) (now (a .store)) (now (a .tables)) _ _ (now (a .d)) (sym (c .before .before .find-listed .ensures) ∙ c .enum-told .given .1)
+    let at-start = c .before .before .before .before .before .before in
+    let a = at-start .args in
+    nothing-set (now (a .list)) (now (a .store)) (now (a .tables)) _ _ (now (a .d))
+    (sym (c .before .before .find-listed .ensures) ∙ c .enum-told .given .1)
 
 is-wrong-length-requires : tie.Need-is-wrong-length-requires
 is-wrong-length-requires c κs = listed _ _ _ (at (c .before .before))
@@ -38,11 +44,17 @@ same-length-2 c = search needs
 
 returns-2 : tie.Need-returns-2
 returns-2 c =
-    let a = c .before .before .before .before .before .before .before .before .before .before .args in
-    wrong-length (now (a .list)) (now (a .store)) (now (a .tables)) _ _ (now (a .d)) _ (at (c .before .before .before .before)) (sym (c .if1 .taken) ∙ c .before .is-wrong-length .ensures)
+    let at-i = c .before .before .before .before in
+    let at-start = at-i .before .before .before .before .before .before in
+    let a = at-start .args in
+    wrong-length (now (a .list)) (now (a .store)) (now (a .tables)) _ _ (now (a .d)) _ (at at-i)
+    (sym (c .if1 .taken) ∙ c .before .is-wrong-length .ensures)
 
 put-at-requires : tie.Need-put-at-requires
-put-at-requires c κs = (listed _ _ _ (at (c .before .before .before .before .before .before .before)), c .before .before .before .before .before .before .before .before .before .before .before .before .before .pre)
+put-at-requires c κs =
+    let at-i = c .before .before .before .before .before .before .before in
+    let at-start = at-i .before .before .before .before .before .before in
+    (listed _ _ _ (at at-i), at-start .pre)
 
 accessed-requires : tie.Need-accessed-requires
 accessed-requires c κs = search needs
@@ -58,9 +70,15 @@ same-length-5 c = search needs
 
 returns-3 : tie.Need-returns-3
 returns-3 c =
-    let a = c .before .before .before .before .before .before .before .before .before .before .before .before .before .before .before .before .before .before .before .args in
-    value-set (now (a .list)) (now (a .store)) (now (a .tables)) _ _ (now (a .d)) _ (at (c .before .before .before .before .before .before .before .before .before .before .before .before .before)) (sym (c .before .before .before .before .before .before .before .before .before .if1 .left) ∙ c .before .before .before .before .before .before .before .before .before .before .is-wrong-length .ensures) _ (c .accessed .result) _ _ _
-    (c .accessed .ensures) (c .before .before .before .before .before .put-at .ensures)
+    let at-put-at = c .before .before .before .before .before in
+    let at-if1 = at-put-at .before .before .before .before in
+    let at-is-wrong-length = at-if1 .before in
+    let at-i = at-is-wrong-length .before .before .before in
+    let at-start = at-i .before .before .before .before .before .before in
+    let a = at-start .args in
+    value-set (now (a .list)) (now (a .store)) (now (a .tables)) _ _ (now (a .d)) _ (at at-i)
+    (sym (at-if1 .if1 .left) ∙ at-is-wrong-length .is-wrong-length .ensures) _ (c .accessed .result) _ _ _ (c .accessed .ensures)
+    (at-put-at .put-at .ensures)
 
 pub set-spec : {M : Type 1} → statement M
 set-spec =

@@ -26,7 +26,15 @@ is-service-requires : tie.Need-is-service-requires Inv-loop μ-loop
 is-service-requires c κs = omega arith
 
 returns : tie.Need-returns Inv-loop μ-loop
-returns c = (c .before .before .before .loop .inv .0, c .before .before .before .loop .inv .1, passed-stops (c .before .before .before .before .before .args .list .now) _ _ _ (c .before .before .before .loop .inv .2) (c .before .before .loop-test .taken) (sym (c .before .is-service .ensures) ∙ c .if1 .taken))
+returns c =
+    let at-loop = c .before .before .before in
+    let at-start = at-loop .before .before in
+    let list = at-start .args .list .now in (
+      at-loop .loop .inv .0,
+      at-loop .loop .inv .1,
+      passed-stops list _ _ _ (at-loop .loop .inv .2) (c .before .before .loop-test .taken)
+          (sym (c .before .is-service .ensures) ∙ c .if1 .taken),
+    )
 
 handle-at-requires-2 : tie.Need-handle-at-requires-2 Inv-loop μ-loop
 handle-at-requires-2 c κs = omega arith
@@ -38,10 +46,23 @@ loop-less : tie.Need-loop-less Inv-loop μ-loop
 loop-less c = omega arith
 
 loop-again : tie.Need-loop-again Inv-loop μ-loop
-loop-again c = (omega arith, omega arith, rw (c .handle-at2 .ensures) (passed-more (c .before .before .before .before .before .before .args .list .now) _ _ _ (c .before .before .before .before .loop .inv .2) (c .before .before .before .loop-test .taken) (sym (c .before .before .is-service .ensures) ∙ c .before .if1 .left)))
+loop-again c =
+    let at-loop-test = c .before .before .before in
+    let at-loop = at-loop-test .before in
+    let at-start = at-loop .before .before in
+    let list = at-start .args .list .now in (
+      omega arith,
+      omega arith,
+      rw (c .handle-at2 .ensures) (passed-more list _ _ _ (at-loop .loop .inv .2) (at-loop-test .loop-test .taken)
+          (sym (c .before .before .is-service .ensures) ∙ c .before .if1 .left)),
+    )
 
 returns-2 : tie.Need-returns-2 Inv-loop μ-loop
-returns-2 c = (c .before .loop .inv .0, c .before .loop .inv .1, passed-ends (c .before .before .before .args .list .now) _ _ _ (c .before .loop .inv .2) (c .loop-test .left))
+returns-2 c =
+    let at-loop = c .before in
+    let at-start = at-loop .before .before in
+    let list = at-start .args .list .now in
+    (at-loop .loop .inv .0, at-loop .loop .inv .1, passed-ends list _ _ _ (at-loop .loop .inv .2) (c .loop-test .left))
 
 pub group-at-spec : {M : Type 1} → statement M
 group-at-spec =

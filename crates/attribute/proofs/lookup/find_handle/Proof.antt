@@ -25,9 +25,11 @@ handle-at-requires c κs = omega arith
 
 returns : tie.Need-returns Inv-loop μ-loop
 returns c =
-    sym
-    (hit (hasHandle (c .before .before .before .before .args .handle)) [] (c .before .before .before .before .args .list .now) _ (c .before .before .loop-test .taken) (eq-eqb _ _ (sym (c .before .handle-at .ensures) ∙ c .if1 .taken)))
-    ∙ c .before .before .before .loop .inv
+    let at-loop = c .before .before .before in
+    let at-start = at-loop .before in
+    let a = at-start .args in
+    sym (hit (hasHandle (a .handle)) [] (a .list .now) _ (c .before .before .loop-test .taken)
+    (eq-eqb _ _ (sym (c .before .handle-at .ensures) ∙ c .if1 .taken))) ∙ at-loop .loop .inv
 
 add-i : tie.Need-add-i Inv-loop μ-loop
 add-i c = omega arith
@@ -37,15 +39,16 @@ loop-less c = omega arith
 
 loop-again : tie.Need-loop-again Inv-loop μ-loop
 loop-again c =
-    sym
-    (miss (hasHandle (c .before .before .before .before .args .handle)) [] (c .before .before .before .before .args .list .now) _ (c .before .before .loop-test .taken) (ne-eqb _ _ (λ e. c .if1 .left (c .before .handle-at .ensures ∙ e))))
-    ∙ c .before .before .before .loop .inv
+    let at-loop = c .before .before .before in
+    let at-start = at-loop .before in
+    let a = at-start .args in
+    sym (miss (hasHandle (a .handle)) [] (a .list .now) _ (c .before .before .loop-test .taken)
+    (ne-eqb _ _ (λ e. c .if1 .left (c .before .handle-at .ensures ∙ e)))) ∙ at-loop .loop .inv
 
 returns-2 : tie.Need-returns-2 Inv-loop μ-loop
 returns-2 c =
-    sym
-    (none-left (hasHandle (c .before .before .args .handle)) [] (c .before .before .args .list .now) _ (c .loop-test .left))
-    ∙ c .before .loop .inv
+    let at-start = c .before .before in
+    sym (none-left (hasHandle (at-start .args .handle)) [] (at-start .args .list .now) _ (c .loop-test .left)) ∙ c .before .loop .inv
 
 pub find-handle-spec : {M : Type 1} → statement M
 find-handle-spec =

@@ -23,10 +23,14 @@ returns-3 : tie.Need-returns-3
 returns-3 c = met _ _ _ (here (c .before .before)) (c .before .if2 .left) (omega arith)
 
 returns-4 : tie.Need-returns-4
-returns-4 c = not-encrypted _ _ _ (here (c .before .before .before)) (c .if4 .taken) (omega arith)
+returns-4 c =
+    let at-if1 = c .before .before .before in
+    not-encrypted _ _ _ (here at-if1) (c .if4 .taken) (omega arith)
 
 returns-5 : tie.Need-returns-5
-returns-5 c = not-authenticated _ _ _ (here (c .before .before .before)) (c .before .before .if2 .left) (c .if4 .left) (omega arith)
+returns-5 c =
+    let at-if1 = c .before .before .before in
+    not-authenticated _ _ _ (here at-if1) (c .before .before .if2 .left) (c .if4 .left) (omega arith)
 
 pub access-spec : {M : Type 1} → statement M
 access-spec = tie.close (tie.spec level-requires returns returns-2 returns-3 returns-4 returns-5)

@@ -1,21 +1,70 @@
--- `attribute::walk::find_type` meets its contract. Assumes nothing.
-use mathlib.Core.Path.{sym, ap, _∙_}
-use Rattle.attribute.specs.declared.ShortForm.{ShortForm}
-use borrow.Author.Needs.{needs}
+-- `attribute::walk::find_type` meets its contract. The invariant is residual: what is left of the walk answers as the whole does. Assumes nothing.
+use mathlib.Core.Path.{_≡_, refl, sym, _∙_}
+use mathlib.Core.Logic.{⊎-elim}
+use Prim.Native.Nat.{_-_}
+use native.Mathlib.Omega.{arith}
+use lib.ListN.{take}
+use Rattle.wire.specs.Walk.{placeFrom}
+use Rattle.attribute.specs.Walk.{isOf}
+use Rattle.attribute.proofs.Walks.{stretch-hit, stretch-miss, stretch-end, match-not}
 use Rattle.attribute.proofs.walk.find_type.Statement.{statement}
 use Rattle.attribute.proofs.walk.find_type.Tie as tie
 
-find-short-requires : tie.Need-find-short-requires
-find-short-requires c κs = (c .before .before .pre .0, ap (λ (x : ShortForm). x .value) (c .before .before .pre .1))
+abbrev Inv-loop : tie.InvT-loop
+Inv-loop list p form uuid i₀ i = placeFrom (isOf uuid) (take (p .to) list) i ≡ placeFrom (isOf uuid) (take (p .to) list) (p .from)
 
-returns : tie.Need-returns
-returns c = search needs
+abbrev μ-loop : tie.MeasureT-loop
+μ-loop list p form uuid i₀ i = p .to - i
 
-find-long-requires : tie.Need-find-long-requires
-find-long-requires c κs = (c .before .before .pre .0, sym (ap (λ (x : ShortForm). x .has) (c .before .before .pre .1)) ∙ c .if1 .left)
+loop-holds : tie.Need-loop-holds Inv-loop μ-loop
+loop-holds c = refl
 
-returns-2 : tie.Need-returns-2
-returns-2 c = search needs
+may-match-requires : tie.Need-may-match-requires Inv-loop μ-loop
+may-match-requires c κs = omega arith
+
+is-type-requires : tie.Need-is-type-requires Inv-loop μ-loop
+is-type-requires c κs = omega arith
+
+returns : tie.Need-returns Inv-loop μ-loop
+returns c =
+    let at-if1 = c .before .before .before .before in
+    let at-loop = at-if1 .before .before in
+    let at-start = at-loop .before .before in
+    sym (stretch-hit (isOf _) (at-start .args .list .now) _ _ (at-start .pre .0) (at-if1 .if1 .taken)
+    (sym (c .before .is-type .ensures) ∙ c .if3 .taken)) ∙ at-loop .loop .inv
+
+add-i : tie.Need-add-i Inv-loop μ-loop
+add-i c = omega arith
+
+loop-less : tie.Need-loop-less Inv-loop μ-loop
+loop-less c = omega arith
+
+loop-again : tie.Need-loop-again Inv-loop μ-loop
+loop-again c =
+    let at-may-match = c .before in
+    let at-loop = at-may-match .before .before .before in
+    let at-start = at-loop .before .before in
+    sym (stretch-miss (isOf _) (at-start .args .list .now) _ _ (at-start .pre .0) (c .before .before .if1 .taken)
+    (⊎-elim (λ w. sym (w .1 .ensures) ∙ w .2 .left)
+    (λ w. match-not _ _ _ (at-may-match .may-match .ensures .1) (at-start .pre .1) (sym (at-may-match .may-match .ensures .0) ∙ w .left))
+    (c .if2 .came))) ∙ at-loop .loop .inv
+
+returns-2 : tie.Need-returns-2 Inv-loop μ-loop
+returns-2 c =
+    let at-start = c .before .before .before .before in
+    sym (stretch-end (isOf _) (at-start .args .list .now) _ _ (at-start .pre .0) (c .if1 .left)) ∙ c .before .before .loop .inv
 
 pub find-type-spec : {M : Type 1} → statement M
-find-type-spec = tie.close (tie.spec find-short-requires returns find-long-requires returns-2)
+find-type-spec =
+    tie.close
+    (tie.spec
+    Inv-loop
+    μ-loop
+    loop-holds
+    may-match-requires
+    is-type-requires
+    returns
+    add-i
+    loop-less
+    loop-again
+    returns-2)

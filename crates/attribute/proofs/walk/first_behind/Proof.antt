@@ -12,7 +12,9 @@ handle-at-requires : tie.Need-handle-at-requires
 handle-at-requires c κs = search needs
 
 returns : tie.Need-returns
-returns c = parts-last _ _ _ (c .before .before .pre .0) (c .before .before .pre .1) (c .before .handle-at .ensures) (omega arith)
+returns c =
+    let at-start = c .before .before in
+    parts-last _ _ _ (at-start .pre .0) (at-start .pre .1) (c .before .handle-at .ensures) (omega arith)
 
 add-place-from : tie.Need-add-place-from
 add-place-from c = search needs

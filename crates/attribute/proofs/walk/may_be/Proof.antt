@@ -18,7 +18,11 @@ is-short-requires : tie.Need-is-short-requires
 is-short-requires c κs = search needs
 
 returns : tie.Need-returns
-returns c = (may-long _ _ (sym (c .before .is-short .ensures) ∙ not-true _ (c .if1 .taken)), is-short-requires (c .before .before) (c .before .is-short .lifetimes))
+returns c =
+    let at-is-short = c .before in (
+      may-long _ _ (sym (at-is-short .is-short .ensures) ∙ not-true _ (c .if1 .taken)),
+      is-short-requires (c .before .before) (at-is-short .is-short .lifetimes),
+    )
 
 mul-get : tie.Need-mul-get
 mul-get c = search needs
@@ -30,10 +34,15 @@ get-requires : tie.Need-get-requires
 get-requires c κs = search needs
 
 returns-2 : tie.Need-returns-2
-returns-2 c = (
-  ap (λ (x : ℕ). eqb x (c .before .before .before .before .before .before .before .args .value)) (c .get .ensures) ∙ may-short _ _ (sym (c .before .before .before .before .is-short .ensures) ∙ not-false _ (c .before .before .before .if1 .left)),
-  is-short-requires (c .before .before .before .before .before) (c .before .before .before .before .is-short .lifetimes),
-)
+returns-2 c =
+    let at-if1 = c .before .before .before in
+    let at-is-short = at-if1 .before in
+    let at-is-short-call = at-is-short .before in
+    let at-start = at-is-short-call .before .before in (
+      ap (λ (x : ℕ). eqb x (at-start .args .value)) (c .get .ensures) ∙ may-short _ _
+          (sym (at-is-short .is-short .ensures) ∙ not-false _ (at-if1 .if1 .left)),
+      is-short-requires at-is-short-call (at-is-short .is-short .lifetimes),
+    )
 
 pub may-be-spec : {M : Type 1} → statement M
 may-be-spec =

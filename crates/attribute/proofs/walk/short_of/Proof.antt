@@ -29,10 +29,14 @@ get-requires-2 : tie.Need-get-requires-2
 get-requires-2 c κs = search needs
 
 returns-2 : tie.Need-returns-2
-returns-2 c = short-based _ (c .before .before .before .before .before .before .if2 .taken) _ (c .before .before .same-uuid .ensures) (c .before .if4 .taken) _ (c .get2 .ensures)
+returns-2 c =
+    let at-if2 = c .before .before .before .before .before .before in
+    short-based _ (at-if2 .if2 .taken) _ (c .before .before .same-uuid .ensures) (c .before .if4 .taken) _ (c .get2 .ensures)
 
 returns-3 : tie.Need-returns-3
-returns-3 c = short-other _ (c .before .before .before .before .before .if2 .taken) _ (c .before .same-uuid .ensures) (c .if4 .left)
+returns-3 c =
+    let at-if2 = c .before .before .before .before .before in
+    short-other _ (at-if2 .if2 .taken) _ (c .before .same-uuid .ensures) (c .if4 .left)
 
 returns-4 : tie.Need-returns-4
 returns-4 c = short-last _ (c .before .before .if2 .taken) (c .if3 .left)

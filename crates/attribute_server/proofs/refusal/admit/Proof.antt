@@ -16,10 +16,16 @@ is-bad-requires : tie.Need-is-bad-requires
 is-bad-requires c κs = search needs
 
 returns-2 : tie.Need-returns-2
-returns-2 c = bad-peer _ _ _ (sym (c .before .before .before .is-valid .ensures) ∙ not-false _ (c .before .before .if1 .left)) refl (sym (c .before .is-bad .ensures) ∙ c .if2 .taken)
+returns-2 c =
+    let at-is-valid = c .before .before .before in
+    bad-peer _ _ _ (sym (at-is-valid .is-valid .ensures) ∙ not-false _ (c .before .before .if1 .left)) refl
+    (sym (c .before .is-bad .ensures) ∙ c .if2 .taken)
 
 returns-3 : tie.Need-returns-3
-returns-3 c = admits _ _ _ (sym (c .before .before .before .is-valid .ensures) ∙ not-false _ (c .before .before .if1 .left)) refl (sym (c .before .is-bad .ensures) ∙ c .if2 .left)
+returns-3 c =
+    let at-is-valid = c .before .before .before in
+    admits _ _ _ (sym (at-is-valid .is-valid .ensures) ∙ not-false _ (c .before .before .if1 .left)) refl
+    (sym (c .before .is-bad .ensures) ∙ c .if2 .left)
 
 pub admit-spec : {M : Type 1} → statement M
 admit-spec = tie.close (tie.spec is-valid-requires returns is-bad-requires returns-2 returns-3)

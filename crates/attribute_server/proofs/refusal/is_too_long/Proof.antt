@@ -14,7 +14,9 @@ enum-known-rq : tie.Need-enum-known-rq
 enum-known-rq c = search needs
 
 is-change-too-long-requires : tie.Need-is-change-too-long-requires
-is-change-too-long-requires c κs = c .before .before .before .pre
+is-change-too-long-requires c κs =
+    let at-start = c .before .before .before in
+    at-start .pre
 
 enum-told-3 : tie.Need-enum-told-3
 enum-told-3 c = search needs

@@ -1,18 +1,29 @@
 -- `attribute_server::request::process` meets its contract. A request that is refused, and one that is let in: a law for each. Assumes nothing.
-use Rattle.attribute_server.proofs.Processing.{process-refused, process-answered}
-use Rattle.attribute_server.proofs.Admitting.{admitted, ready-given, with-record, without-record, room-enough, request-fits}
-use Rattle.attribute_server.specs.Request.{call}
-use lib.ListN.{length}
-use Rattle.peers.specs.Slots.{slotOf}
-use Rattle.model.specs.View.{pendingOf}
-use Rattle.model.specs.Change.{lent}
-use Rattle.requests.proofs.Given.{told-given, lent-given}
-use denote.Ref.{now}
 use mathlib.Core.Path.{sym, _∙_}
 use native.Mathlib.Omega.{arith}
+use lib.ListN.{length}
 use borrow.Author.Needs.{needs}
+use denote.Ref.{now}
+use Rattle.peers.specs.Bytes.{rowOf}
+use Rattle.peers.specs.Slots.{slotOf}
+use Rattle.state.specs.State.{State, Waiting, lent, waiting}
+use Rattle.model.specs.View.{pendingOf}
+use Rattle.requests.proofs.Given.{told-given, lent-given}
+use Rattle.attribute_server.specs.Request.{Query, query}
+use Rattle.attribute_server.proofs.Admitting.{admitted, ready-given, with-record, without-record, room-enough, request-fits}
+use Rattle.attribute_server.proofs.Processing.{process-refused, process-answered}
 use Rattle.attribute_server.proofs.request.process.Statement.{statement}
 use Rattle.attribute_server.proofs.request.process.Tie as tie
+
+-- the state, what waits at the link, and the request
+abbrev was : (c : tie.Start) → State
+was c = lent (now (c .args .list)) (now (c .args .store)) (now (c .args .row)) (now (c .args .tables))
+
+abbrev waits : (c : tie.Start) → Waiting
+waits c = waiting (c .args .p) (now (c .args .bytes))
+
+abbrev asked : (c : tie.Start) → Query
+asked c = query (c .args .who) (c .args .link) (c .args .rq) (now (c .args .d))
 
 admit-request-requires : tie.Need-admit-request-requires
 admit-request-requires c κs = search needs
@@ -29,10 +40,16 @@ same-length c = search needs
 same-length-2 : tie.Need-same-length-2
 same-length-2 c = search needs
 
+same-length-3 : tie.Need-same-length-3
+same-length-3 c = search needs
+
 returns : tie.Need-returns
 returns c =
-    let a = c .before .before .before .before .before .before .before .before .before .before .args in
-    process-refused (call (now (a .list)) (now (a .store)) (a .row) (now (a .tables)) (a .who) (a .link) (a .p) (now (a .bytes)) (a .rq) (now (a .d))) (now (a .out)) _ _ (sym (c .before .before .before .before .admit-request .ensures) ∙ c .before .before .a .given .1) (c .with-record .ensures .0) (c .with-record .ensures .1)
+    let at-admit-request = c .before .before .before .before in
+    let at-start = at-admit-request .before .before .before .before .before .before .before in
+    process-refused (was at-start) (waits at-start) (asked at-start) (now (at-start .args .out)) (c .with-record .result) _
+    (sym (at-admit-request .admit-request .ensures) ∙ c .before .before .a .given .1) (c .with-record .ensures .0)
+    (c .with-record .ensures .1)
 
 enum-told : tie.Need-enum-told
 enum-told c = search needs
@@ -42,13 +59,18 @@ slot-for-requires c κs = search needs
 
 answer-requires : tie.Need-answer-requires
 answer-requires c κs =
-    let w = admitted _ _ _ (sym (c .before .before .before .before .before .before .before .before .admit-request .ensures) ∙ c .before .before .before .before .before .before .enum-told .given .1) in
-    let v = without-record _ _ _ _ _ (w .right) in
-    let a = c .before .before .before .before .before .before .before .before .before .before .before .before .before .before .args in
-    ((rw (c .before .before .before .before .before .slot-for .ensures) (ready-given _ _ _ _ (a .who) v (a .rq)), with-record _ _ _ _ _ (w .right)), (search needs, omega (arith, room-enough _ _ _ (w .buffer)), request-fits _ _ _ (w .buffer)))
-
-same-length-3 : tie.Need-same-length-3
-same-length-3 c = search needs
+    let at-slot-for = c .before .before .before .before .before in
+    let at-told = at-slot-for .before in
+    let at-admit-request = at-told .before .before in
+    let at-start = at-admit-request .before .before .before .before .before .before .before in
+    let a = at-start .args in
+    let w = admitted _ _ _ (sym (at-admit-request .admit-request .ensures) ∙ at-told .enum-told .given .1) in (
+      (
+        rw (at-slot-for .slot-for .ensures) (ready-given _ (a .who) (without-record _ _ (w .right)) (a .rq)),
+        with-record _ _ (w .right),
+      ),
+      (search needs, omega (arith, room-enough _ _ _ (w .buffer)), request-fits _ _ _ (w .buffer)),
+    )
 
 same-length-4 : tie.Need-same-length-4
 same-length-4 c = search needs
@@ -59,13 +81,24 @@ same-length-5 c = search needs
 same-length-6 : tie.Need-same-length-6
 same-length-6 c = search needs
 
+same-length-7 : tie.Need-same-length-7
+same-length-7 c = search needs
+
 returns-2 : tie.Need-returns-2
 returns-2 c =
-    let a = c .before .before .before .before .before .before .before .before .before .before .before .before .before .before .before .before .before .before .before .before .before .args in
-    let e = rw (c .before .before .before .before .before .before .before .before .before .before .before .before .slot-for .ensures) at (c .before .before .before .before .before .before .answer .ensures) in
-    process-answered (call (now (a .list)) (now (a .store)) (a .row) (now (a .tables)) (a .who) (a .link) (a .p) (now (a .bytes)) (a .rq) (now (a .d))) (now (a .out)) _ _ _ _ _ _ (sym (c .before .before .before .before .before .before .before .before .before .before .before .before .before .before .before .admit-request .ensures) ∙ c .before .before .before .before .before .before .before .before .before .before .before .before .before .enum-told .given .1) (e .0) (e .1)
-    (rw (lent-given (a .link) (lent (now (a .list)) (now (a .store)) (now (a .tables))) (pendingOf (a .p) (now (a .bytes))) (now (a .d)) (slotOf (a .row) (a .who)) (a .rq)) at (e .2))
-    (rw (told-given (a .link) (now (a .list)) (now (a .store)) (now (a .tables)) (pendingOf (a .p) (now (a .bytes))) (length (now (a .out))) (now (a .d)) (slotOf (a .row) (a .who)) (a .rq)) at (e .3))
+    let at-answer = c .before .before .before .before .before .before in
+    let at-slot-for = at-answer .before .before .before .before .before .before in
+    let at-told = at-slot-for .before in
+    let at-admit-request = at-told .before .before in
+    let at-start = at-admit-request .before .before .before .before .before .before .before in
+    let a = at-start .args in
+    let e = rw (at-slot-for .slot-for .ensures) at (at-answer .answer .ensures) in
+    let w = pendingOf (a .p) (now (a .bytes)) in
+    let slot = slotOf (rowOf (now (a .row))) (a .who) in
+    process-answered (was at-start) (waits at-start) (asked at-start) (now (a .out)) (at-answer .answer .result) _ _ _
+    (sym (at-admit-request .admit-request .ensures) ∙ at-told .enum-told .given .1) (e .0) (e .1)
+    (e .2 (rowOf (now (a .row))) ∙ lent-given (a .link) (was at-start) w (now (a .d)) slot (a .rq))
+    (rw (told-given (a .link) (now (a .list)) (now (a .store)) (now (a .tables)) w (length (now (a .out))) (now (a .d)) slot (a .rq)) at (e .3))
 
 pub process-spec : {M : Type 1} → statement M
 process-spec =
@@ -76,12 +109,13 @@ process-spec =
     with-record-requires
     same-length
     same-length-2
+    same-length-3
     returns
     enum-told
     slot-for-requires
     answer-requires
-    same-length-3
     same-length-4
     same-length-5
     same-length-6
+    same-length-7
     returns-2)

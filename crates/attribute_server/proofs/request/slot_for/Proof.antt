@@ -12,11 +12,11 @@ needs-slot-requires c κs = search needs
 returns : tie.Need-returns
 returns c = no-slot _ _ (sym (c .before .needs-slot .ensures) ∙ not-true _ (c .if1 .taken))
 
-find-slot-requires : tie.Need-find-slot-requires
-find-slot-requires c κs = search needs
+first-requires : tie.Need-first-requires
+first-requires c κs = search needs
 
 returns-2 : tie.Need-returns-2
-returns-2 c = c .find-slot .ensures ∙ own-slot _ _ (sym (c .before .before .needs-slot .ensures) ∙ not-false _ (c .before .if1 .left))
+returns-2 c = c .first .ensures ∙ own-slot _ _ (sym (c .before .before .needs-slot .ensures) ∙ not-false _ (c .before .if1 .left))
 
 pub slot-for-spec : {M : Type 1} → statement M
-slot-for-spec = tie.close (tie.spec needs-slot-requires returns find-slot-requires returns-2)
+slot-for-spec = tie.close (tie.spec needs-slot-requires returns first-requires returns-2)

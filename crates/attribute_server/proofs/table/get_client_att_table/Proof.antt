@@ -12,19 +12,31 @@ enum-known-a : tie.Need-enum-known-a
 enum-known-a c = search needs
 
 returns : tie.Need-returns
-returns c = no-answer _ _ _ _ _ _ (sym (c .before .before .before .admit .ensures) ∙ c .before .a .given .1)
+returns c =
+    let at-admit = c .before .before .before in
+    no-answer _ _ _ _ _ _ (sym (at-admit .admit .ensures) ∙ c .before .a .given .1)
 
 enum-told : tie.Need-enum-told
 enum-told c = search needs
 
-find-slot-requires : tie.Need-find-slot-requires
-find-slot-requires c κs = search needs
+first-requires : tie.Need-first-requires
+first-requires c κs = search needs
 
 get-client-att-table-requires : tie.Need-get-client-att-table-requires
-get-client-att-table-requires c κs = (rw (c .before .find-slot .ensures) (slot-ready _ _ _ _ (c .before .before .before .before .before .args .who) (admitted _ _ _ (sym (c .before .before .before .before .admit .ensures) ∙ c .before .before .enum-told .given .1) .right)), search needs)
+get-client-att-table-requires c κs =
+    let at-admit = c .before .before .before .before in
+    let at-start = at-admit .before .before in (
+      rw (c .before .first .ensures) (slot-ready _ (at-start .args .who)
+          (admitted _ _ _ (sym (at-admit .admit .ensures) ∙ c .before .before .enum-told .given .1) .right)),
+      search needs,
+    )
 
 returns-2 : tie.Need-returns-2
-returns-2 c = yes-answer _ _ _ _ _ (sym (c .before .before .before .before .before .admit .ensures) ∙ c .before .before .before .enum-told .given .1) (rw (c .before .before .find-slot .ensures) at (c .get-client-att-table .ensures))
+returns-2 c =
+    let at-told = c .before .before .before in
+    let at-admit = at-told .before .before in
+    yes-answer _ _ _ _ _ (sym (at-admit .admit .ensures) ∙ at-told .enum-told .given .1)
+    (rw (c .before .before .first .ensures) at (c .get-client-att-table .ensures))
 
 pub get-client-att-table-spec : {M : Type 1} → statement M
 get-client-att-table-spec =
@@ -34,6 +46,6 @@ get-client-att-table-spec =
     enum-known-a
     returns
     enum-told
-    find-slot-requires
+    first-requires
     get-client-att-table-requires
     returns-2)

@@ -12,22 +12,33 @@ enum-known-a : tie.Need-enum-known-a
 enum-known-a c = search needs
 
 returns : tie.Need-returns
-returns c = no-answer _ _ _ _ _ _ (sym (c .before .before .before .admit .ensures) ∙ c .before .a .given .1)
+returns c =
+    let at-admit = c .before .before .before in
+    no-answer _ _ _ _ _ _ (sym (at-admit .admit .ensures) ∙ c .before .a .given .1)
 
 enum-told : tie.Need-enum-told
 enum-told c = search needs
 
-find-slot-requires : tie.Need-find-slot-requires
-find-slot-requires c κs = search needs
+first-requires : tie.Need-first-requires
+first-requires c κs = search needs
 
 get-requires : tie.Need-get-requires
-get-requires c κs = rw (c .before .find-slot .ensures) (ready _ _ _ _ (c .before .before .before .before .before .before .before .args .who) (admitted _ _ _ (sym (c .before .before .before .before .admit .ensures) ∙ c .before .before .enum-told .given .1) .right))
+get-requires c κs =
+    let at-admit = c .before .before .before .before in
+    let at-start = at-admit .before .before .before in
+    rw (c .before .first .ensures)
+    (ready _ (at-start .args .who) (admitted _ _ _ (sym (at-admit .admit .ensures) ∙ c .before .before .enum-told .given .1) .right))
 
 same-length : tie.Need-same-length
 same-length c = search needs
 
 returns-2 : tie.Need-returns-2
-returns-2 c = yes-answer _ _ _ _ _ (sym (c .before .before .before .before .before .before .before .admit .ensures) ∙ c .before .before .before .before .before .enum-told .given .1) (rw (c .before .before .before .before .find-slot .ensures) at (c .before .before .get .ensures))
+returns-2 c =
+    let at-first = c .before .before .before .before in
+    let at-told = at-first .before in
+    let at-admit = at-told .before .before in
+    yes-answer _ _ _ _ _ (sym (at-admit .admit .ensures) ∙ at-told .enum-told .given .1)
+    (rw (at-first .first .ensures) at (c .before .before .get .ensures))
 
 pub get-spec : {M : Type 1} → statement M
 get-spec =
@@ -37,7 +48,7 @@ get-spec =
     enum-known-a
     returns
     enum-told
-    find-slot-requires
+    first-requires
     get-requires
     same-length
     returns-2)

@@ -11,7 +11,9 @@ use denote.Ref.{now}
 use Rattle.client_att_table.proofs.inner.decide.Statement.{statement}
 use Rattle.client_att_table.proofs.inner.decide.Tie as tie
 
-at : (c : tie.After-p) → placeOf (now (c .before .before .before .before .args .t)) (c .before .before .before .before .args .key .0) ≡ At (c .p .given .0 .0)
+at : (c : tie.After-p) →
+    let at-start = c .before .before .before .before in
+    placeOf (now (at-start .args .t)) (at-start .args .key .0) ≡ At (c .p .given .0 .0)
 at c = sym (c .before .before .find .ensures) ∙ c .p .given .1
 
 find-requires : tie.Need-find-requires
@@ -28,26 +30,35 @@ returns c = absent _ _ _ _ (sym (c .before .before .find .ensures) ∙ c .enum-t
 
 value-len-requires : tie.Need-value-len-requires
 value-len-requires c κs =
+    let at-start = c .before .before .before .before .before in
     let i = placed _ _ _ (at (c .before)) .inside in
-    let e = entry-at _ (c .before .before .before .before .before .pre .0) _ i in
-    omega (arith, fits _ (c .before .before .before .before .before .pre .0))
+    let e = entry-at _ (at-start .pre .0) _ i in
+    omega (arith, fits _ (at-start .pre .0))
 
 returns-2 : tie.Need-returns-2
-returns-2 c = bad-offset _ _ _ _ _ (at (c .before .before .before)) (omega arith)
+returns-2 c =
+    let at-p = c .before .before .before in
+    bad-offset _ _ _ _ _ (at at-p) (omega arith)
 
 capacity-requires : tie.Need-capacity-requires
 capacity-requires c κs =
-    let i = placed _ _ _ (at (c .before .before .before)) .inside in
-    omega (arith, fits _ (c .before .before .before .before .before .before .before .pre .0))
+    let at-p = c .before .before .before in
+    let at-start = at-p .before .before .before .before in
+    let i = placed _ _ _ (at at-p) .inside in
+    omega (arith, fits _ (at-start .pre .0))
 
 add-if2 : tie.Need-add-if2
 add-if2 c = search needs
 
 returns-3 : tie.Need-returns-3
-returns-3 c = bad-length _ _ _ _ _ (at (c .before .before .before .before .before)) (omega arith) (omega arith)
+returns-3 c =
+    let at-p = c .before .before .before .before .before in
+    bad-length _ _ _ _ _ (at at-p) (omega arith) (omega arith)
 
 returns-4 : tie.Need-returns-4
-returns-4 c = goes-in _ _ _ _ _ (at (c .before .before .before .before .before)) (omega arith) (omega arith)
+returns-4 c =
+    let at-p = c .before .before .before .before .before in
+    goes-in _ _ _ _ _ (at at-p) (omega arith) (omega arith)
 
 pub decide-spec : {M : Type 1} → statement M
 decide-spec =

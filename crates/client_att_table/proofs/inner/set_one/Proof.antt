@@ -9,19 +9,29 @@ use Rattle.client_att_table.proofs.inner.set_one.Statement.{statement}
 use Rattle.client_att_table.proofs.inner.set_one.Tie as tie
 
 key-at-requires : tie.Need-key-at-requires
-key-at-requires c κs = omega (arith, fits _ (c .before .before .before .pre .0 .0), c .before .before .before .pre .0 .1)
+key-at-requires c κs =
+    let at-start = c .before .before .before in
+    omega (arith, fits _ (at-start .pre .0 .0), at-start .pre .0 .1)
 
 find-requires : tie.Need-find-requires
-find-requires c κs = c .before .before .before .before .pre .1
+find-requires c κs =
+    let at-start = c .before .before .before .before in
+    at-start .pre .1
 
 enum-known-q : tie.Need-enum-known-q
 enum-known-q c = search needs
 
 value-requires : tie.Need-value-requires
-value-requires c κs = (c .before .before .before .before .before .before .before .before .before .pre .1, placed _ _ _ (sym (c .before .before .before .before .find .ensures) ∙ c .before .before .q .given .1) .inside)
+value-requires c κs =
+    let at-find = c .before .before .before .before in
+    let at-start = at-find .before .before .before .before .before in
+    (at-start .pre .1, placed _ _ _ (sym (at-find .find .ensures) ∙ c .before .before .q .given .1) .inside)
 
 put-value-requires : tie.Need-put-value-requires
-put-value-requires c κs = c .before .before .before .before .before .before .before .before .before .before .pre .0
+put-value-requires c κs =
+    let at-key-at = c .before .before .before .before .before .before in
+    let at-start = at-key-at .before .before .before .before in
+    at-start .pre .0
 
 enum-told : tie.Need-enum-told
 enum-told c = search needs
@@ -36,7 +46,10 @@ part-put-value-end : tie.Need-part-put-value-end
 part-put-value-end c = search needs
 
 put-value-requires-2 : tie.Need-put-value-requires-2
-put-value-requires-2 c κs = c .before .before .before .before .before .before .before .before .before .pre .0
+put-value-requires-2 c κs =
+    let at-key-at = c .before .before .before .before .before in
+    let at-start = at-key-at .before .before .before .before in
+    at-start .pre .0
 
 same-length : tie.Need-same-length
 same-length c = search needs
@@ -44,8 +57,12 @@ same-length c = search needs
 returns : tie.Need-returns
 unfolding setOne
 returns c =
-    c .before .before .put-value .ensures ∙ rw
-    (c .before .before .before .value .ensures, ← c .before .before .before .before .before .before .before .before .before .key-at .ensures, ← c .before .before .before .before .before .before .before .before .find .ensures, c .before .before .before .before .before .before .q .given .1)
+    let at-value = c .before .before .before in
+    let at-q = at-value .before .before .before in
+    let at-find = at-q .before .before in
+    let at-key-at = at-find .before in
+    c .before .before .put-value .ensures
+    ∙ rw (at-value .value .ensures, ← at-key-at .key-at .ensures, ← at-find .find .ensures, at-q .q .given .1)
 
 same-length-2 : tie.Need-same-length-2
 same-length-2 c = search needs
@@ -53,8 +70,10 @@ same-length-2 c = search needs
 returns-2 : tie.Need-returns-2
 unfolding setOne
 returns-2 c =
-    c .before .before .put-value2 .ensures ∙ rw
-    (← c .before .before .before .before .before .before .before .before .key-at .ensures, ← c .before .before .before .before .before .before .before .find .ensures, c .before .before .before .before .before .enum-told .given .1)
+    let at-told = c .before .before .before .before .before in
+    let at-find = at-told .before .before in
+    let at-key-at = at-find .before in
+    c .before .before .put-value2 .ensures ∙ rw (← at-key-at .key-at .ensures, ← at-find .find .ensures, at-told .enum-told .given .1)
 
 pub set-one-spec : {M : Type 1} → statement M
 set-one-spec =

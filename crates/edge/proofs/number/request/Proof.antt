@@ -23,14 +23,28 @@ change-requires c κs = search needs
 
 returns-2 : tie.Need-returns-2
 unfolding requestOf
-returns-2 c = rw (sym (c .before .before .before .before .is-ask .ensures) ∙ c .before .before .before .if1 .left, sym (c .before .before .is-change .ensures) ∙ c .before .if2 .taken, c .change .ensures)
+returns-2 c =
+    let at-if1 = c .before .before .before in
+    let at-is-ask = at-if1 .before in
+    rw (
+      sym (at-is-ask .is-ask .ensures) ∙ at-if1 .if1 .left,
+      sym (c .before .before .is-change .ensures) ∙ c .before .if2 .taken,
+      c .change .ensures,
+    )
 
 other-requires : tie.Need-other-requires
 other-requires c κs = search needs
 
 returns-3 : tie.Need-returns-3
 unfolding requestOf
-returns-3 c = rw (sym (c .before .before .before .before .is-ask .ensures) ∙ c .before .before .before .if1 .left, sym (c .before .before .is-change .ensures) ∙ c .before .if2 .left, c .other .ensures)
+returns-3 c =
+    let at-if1 = c .before .before .before in
+    let at-is-ask = at-if1 .before in
+    rw (
+      sym (at-is-ask .is-ask .ensures) ∙ at-if1 .if1 .left,
+      sym (c .before .before .is-change .ensures) ∙ c .before .if2 .left,
+      c .other .ensures,
+    )
 
 pub request-spec : {M : Type 1} → statement M
 request-spec =

@@ -29,7 +29,12 @@ same-length-4 : tie.Need-same-length-4
 same-length-4 c = search needs
 
 returns : tie.Need-returns
-returns c = served _ _ _ _ _ _ _ _ _ (rw (c .before .before .before .before .before .before .before .before .before .before .before .before .before .before .before .link .ensures, c .before .before .before .before .before .before .before .before .before .before .before .before .before .before .request .ensures) at (c .before .before .before .before .before .before .before .before .process .ensures)) (c .reply .ensures)
+returns c =
+    let at-process = c .before .before .before .before .before .before .before .before in
+    let at-request = at-process .before .before .before .before .before .before in
+    let at-link = at-request .before in
+    served _ _ _ _ _ _ _ _ _ (rw (at-link .link .ensures, at-request .request .ensures) at (at-process .process .ensures))
+    (c .reply .ensures)
 
 pub process-spec : {M : Type 1} → statement M
 process-spec =

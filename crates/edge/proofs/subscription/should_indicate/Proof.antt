@@ -11,7 +11,9 @@ reply-requires : tie.Need-reply-requires
 reply-requires c κs = search needs
 
 returns : tie.Need-returns
-returns c = replied (c .before .should-indicate .result) _ _ (c .before .should-indicate .ensures) (c .reply .ensures)
+returns c =
+    let at-should-indicate = c .before in
+    replied (at-should-indicate .should-indicate .result) _ _ (at-should-indicate .should-indicate .ensures) (c .reply .ensures)
 
 pub should-indicate-spec : {M : Type 1} → statement M
 should-indicate-spec = tie.close (tie.spec should-indicate-requires reply-requires returns)

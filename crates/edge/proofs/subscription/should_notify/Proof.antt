@@ -11,7 +11,9 @@ reply-requires : tie.Need-reply-requires
 reply-requires c κs = search needs
 
 returns : tie.Need-returns
-returns c = replied (c .before .should-notify .result) _ _ (c .before .should-notify .ensures) (c .reply .ensures)
+returns c =
+    let at-should-notify = c .before in
+    replied (at-should-notify .should-notify .result) _ _ (at-should-notify .should-notify .ensures) (c .reply .ensures)
 
 pub should-notify-spec : {M : Type 1} → statement M
 should-notify-spec = tie.close (tie.spec should-notify-requires reply-requires returns)

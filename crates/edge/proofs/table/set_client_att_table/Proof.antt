@@ -14,7 +14,12 @@ same-length : tie.Need-same-length
 same-length c = search needs
 
 returns : tie.Need-returns
-returns c = (replied (c .before .before .set-client-att-table .result) _ _ (c .before .before .set-client-att-table .ensures .0) (c .reply .ensures), c .before .before .set-client-att-table .ensures .1)
+returns c =
+    let at-set-client-att-table = c .before .before in (
+      replied (at-set-client-att-table .set-client-att-table .result) _ _ (at-set-client-att-table .set-client-att-table .ensures .0)
+          (c .reply .ensures),
+      at-set-client-att-table .set-client-att-table .ensures .1,
+    )
 
 pub set-client-att-table-spec : {M : Type 1} → statement M
 set-client-att-table-spec =

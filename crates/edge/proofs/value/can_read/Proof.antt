@@ -14,7 +14,10 @@ reply-requires : tie.Need-reply-requires
 reply-requires c κs = search needs
 
 returns : tie.Need-returns
-returns c = replied (c .before .can-read .result) _ _ (rw (c .before .before .link .ensures) at (c .before .can-read .ensures)) (c .reply .ensures)
+returns c =
+    let at-can-read = c .before in
+    replied (at-can-read .can-read .result) _ _ (rw (c .before .before .link .ensures) at (at-can-read .can-read .ensures))
+    (c .reply .ensures)
 
 pub can-read-spec : {M : Type 1} → statement M
 can-read-spec = tie.close (tie.spec link-requires can-read-requires reply-requires returns)

@@ -14,7 +14,10 @@ reply-requires : tie.Need-reply-requires
 reply-requires c κs = search needs
 
 returns : tie.Need-returns
-returns c = replied (c .before .can-write .result) _ _ (rw (c .before .before .link .ensures) at (c .before .can-write .ensures)) (c .reply .ensures)
+returns c =
+    let at-can-write = c .before in
+    replied (at-can-write .can-write .result) _ _ (rw (c .before .before .link .ensures) at (at-can-write .can-write .ensures))
+    (c .reply .ensures)
 
 pub can-write-spec : {M : Type 1} → statement M
 can-write-spec = tie.close (tie.spec link-requires can-write-requires reply-requires returns)

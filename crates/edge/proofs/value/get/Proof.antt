@@ -14,7 +14,9 @@ same-length : tie.Need-same-length
 same-length c = search needs
 
 returns : tie.Need-returns
-returns c = copied _ _ _ _ _ (c .before .before .before .get .ensures) (c .reply .ensures)
+returns c =
+    let at-get = c .before .before .before in
+    copied _ _ _ _ _ (at-get .get .ensures) (c .reply .ensures)
 
 pub get-spec : {M : Type 1} → statement M
 get-spec = tie.close (tie.spec get-requires reply-requires same-length returns)

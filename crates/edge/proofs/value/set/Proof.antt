@@ -20,7 +20,9 @@ same-length-3 : tie.Need-same-length-3
 same-length-3 c = search needs
 
 returns : tie.Need-returns
-returns c = (replied (c .before .before .before .before .before .set .result) _ _ (c .before .before .before .before .before .set .ensures .0) (c .reply .ensures), c .before .before .before .before .before .set .ensures .1)
+returns c =
+    let at-set = c .before .before .before .before .before in
+    (replied (at-set .set .result) _ _ (at-set .set .ensures .0) (c .reply .ensures), at-set .set .ensures .1)
 
 pub set-spec : {M : Type 1} → statement M
 set-spec =

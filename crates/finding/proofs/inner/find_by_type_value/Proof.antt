@@ -19,13 +19,18 @@ use Rattle.finding.proofs.inner.find_by_type_value.Statement.{statement
 use Rattle.finding.proofs.inner.find_by_type_value.Tie as tie
 
 -- the range is good
-good : (c : tie.Else1) → isBadRange (c .before .before .before .before .before .args .g) ≡ false
+good : (c : tie.Else1) →
+    let at-start = c .before .before .before .before .before in
+    isBadRange (at-start .args .g) ≡ false
 good c = sym (c .before .is-bad .ensures) ∙ c .if1 .left
 
 -- the rows that the loop writes, by the room that is left
 abbrev rows : tie.After-put-found → ℕ → List ℕ
 rows c =
-    let a = c .before .before .before .before .before .before .before .before .before .before .before .before .before .before .args in
+    let at-byte = c .before .before .before .before .before .before in
+    let at-is-bad = at-byte .before .before .before .before in
+    let at-start = at-is-bad .before .before .before .before in
+    let a = at-start .args in
     run (findTurn (now (a .store)) (isWanted (a .g .start) (a .g .end) (wordBytes (a .uuid))) (now (a .d))) (now (a .list))
 
 is-bad-requires : tie.Need-is-bad-requires
@@ -39,8 +44,9 @@ same-length c = search needs
 
 returns : tie.Need-returns
 returns c =
-    sent-as _ _ _ _ _ (c .before .before .error-response .ensures)
-    (bad-range _ _ (sym (c .before .before .before .before .before .is-bad .ensures) ∙ c .before .before .before .before .if1 .taken))
+    let at-if1 = c .before .before .before .before in
+    let at-is-bad = at-if1 .before in
+    sent-as _ _ _ _ _ (c .before .before .error-response .ensures) (bad-range _ _ (sym (at-is-bad .is-bad .ensures) ∙ at-if1 .if1 .taken))
 
 new-requires : tie.Need-new-requires
 new-requires c κs = search needs
@@ -55,23 +61,32 @@ cast-t20 : tie.Need-cast-t20
 cast-t20 c = search needs
 
 stretch-requires : tie.Need-stretch-requires
-stretch-requires c κs = ascending _ _ (c .before .before .before .before .before .before .before .before .before .before .pre .0)
+stretch-requires c κs =
+    let at-is-bad = c .before .before .before .before .before .before in
+    let at-start = at-is-bad .before .before .before .before in
+    ascending _ _ (at-start .pre .0)
 
 slice-aggregate-put-found : tie.Need-slice-aggregate-put-found
 slice-aggregate-put-found c = search needs
 
 put-found-requires : tie.Need-put-found-requires
-put-found-requires c κs = (
-  (
-    ordered _ _ _ _ (c .before .before .stretch .ensures .0) (c .before .before .stretch .ensures .1) (in-order _ (good (c .before .before .before .before .before .before .before .before))),
-    c .before .before .stretch .ensures .1 .inside,
-    short-word _,
-  ),
-  (
-    c .before .before .before .before .before .before .before .before .before .before .before .before .before .pre .0,
-    find-room _ _ _ _ (omega (arith, c .before .before .before .before .before .before .before .before .before .before .before .before .before .pre .1)) (c .before .before .before .before .before .before .before .new .ensures .0) (c .before .before .before .before .before .byte .ensures .0) (c .before .before .before .before .before .byte .ensures .1),
-  ),
-)
+put-found-requires c κs =
+    let at-stretch = c .before .before in
+    let at-byte = at-stretch .before .before .before in
+    let at-new = at-byte .before .before in
+    let at-if1 = at-new .before in
+    let at-start = at-if1 .before .before .before .before .before in (
+      (
+        ordered _ _ _ _ (at-stretch .stretch .ensures .0) (at-stretch .stretch .ensures .1) (in-order _ (good at-if1)),
+        at-stretch .stretch .ensures .1 .inside,
+        short-word _,
+      ),
+      (
+        at-start .pre .0,
+        find-room _ _ _ _ (omega (arith, at-start .pre .1)) (at-new .new .ensures .0) (at-byte .byte .ensures .0)
+            (at-byte .byte .ensures .1),
+      ),
+    )
 
 error-response-requires-2 : tie.Need-error-response-requires-2
 error-response-requires-2 c κs = search needs
@@ -81,29 +96,32 @@ same-length-2 c = search needs
 
 returns-2 : tie.Need-returns-2
 returns-2 c =
-    sent-as _ _ _ _ _
-    (error-sent _ _ _ _ _ _ _ (rows (c .before .before .before .before .before .before .before .before)) (omega (arith, c .before .before .before .before .before .before .before .before .before .before .before .before .before .before .before .before .before .before .before .before .before .before .pre .1))
-    (c .before .before .before .before .before .before .before .before .before .before .before .before .before .before .before .before .new .ensures .0)
-    (c .before .before .before .before .before .before .before .before .before .before .before .before .before .before .byte .ensures .0)
-    (c .before .before .before .before .before .before .before .before .before .before .before .before .before .before .byte .ensures .1)
-    (found-rows _ _ _ _ _ _ _ (c .before .before .before .before .before .before .before .before .before .before .before .stretch .ensures .0) (c .before .before .before .before .before .before .before .before .before .before .before .stretch .ensures .1) _ _ _ _ (c .before .before .before .before .before .before .before .before .put-found .ensures))
-    (c .before .before .before .before .if2 .taken) _ _
-    (c .before .before .error-response2 .ensures))
-    (good-range _ _ (good (c .before .before .before .before .before .before .before .before .before .before .before .before .before .before .before .before .before)))
+    let at-if2 = c .before .before .before .before in
+    let at-put-found = at-if2 .before .before .before .before in
+    let at-stretch = at-put-found .before .before .before in
+    let at-byte = at-stretch .before .before .before in
+    let at-new = at-byte .before .before in
+    let at-if1 = at-new .before in
+    let at-start = at-if1 .before .before .before .before .before in
+    sent-as _ _ _ _ _ (error-sent _ _ _ _ _ _ _ (rows at-put-found) (omega (arith, at-start .pre .1)) (at-new .new .ensures .0)
+    (at-byte .byte .ensures .0) (at-byte .byte .ensures .1) (found-rows _ _ _ _ _ _ _ (at-stretch .stretch .ensures .0)
+    (at-stretch .stretch .ensures .1) _ _ _ _ (at-put-found .put-found .ensures)) (at-if2 .if2 .taken) _ _
+    (c .before .before .error-response2 .ensures)) (good-range _ _ (good at-if1))
 
 same-length-3 : tie.Need-same-length-3
 same-length-3 c = search needs
 
 returns-3 : tie.Need-returns-3
 returns-3 c =
-    sent-as _ _ _ _ _
-    (rows-sent _ _ _ _ _ _ _ (rows (c .before .before .before .before)) (omega (arith, c .before .before .before .before .before .before .before .before .before .before .before .before .before .before .before .before .before .before .pre .1))
-    (c .before .before .before .before .before .before .before .before .before .before .before .before .new .ensures .0)
-    (c .before .before .before .before .before .before .before .before .before .before .byte .ensures .0)
-    (c .before .before .before .before .before .before .before .before .before .before .byte .ensures .1)
-    (found-rows _ _ _ _ _ _ _ (c .before .before .before .before .before .before .before .stretch .ensures .0) (c .before .before .before .before .before .before .before .stretch .ensures .1) _ _ _ _ (c .before .before .before .before .put-found .ensures))
-    (c .if2 .left))
-    (good-range _ _ (good (c .before .before .before .before .before .before .before .before .before .before .before .before .before)))
+    let at-put-found = c .before .before .before .before in
+    let at-stretch = at-put-found .before .before .before in
+    let at-byte = at-stretch .before .before .before in
+    let at-new = at-byte .before .before in
+    let at-if1 = at-new .before in
+    let at-start = at-if1 .before .before .before .before .before in
+    sent-as _ _ _ _ _ (rows-sent _ _ _ _ _ _ _ (rows at-put-found) (omega (arith, at-start .pre .1)) (at-new .new .ensures .0)
+    (at-byte .byte .ensures .0) (at-byte .byte .ensures .1) (found-rows _ _ _ _ _ _ _ (at-stretch .stretch .ensures .0)
+    (at-stretch .stretch .ensures .1) _ _ _ _ (at-put-found .put-found .ensures)) (c .if2 .left)) (good-range _ _ (good at-if1))
 
 pub find-by-type-value-spec : {M : Type 1} → statement M
 find-by-type-value-spec =

@@ -13,7 +13,9 @@ same-length : tie.Need-same-length
 same-length c = search needs
 
 returns : tie.Need-returns
-returns c = row-stopped _ _ _ (c .before .before .before .before .pre .1) (found-full _ _ _ (omega (arith, c .before .available .ensures, c .if1 .taken)))
+returns c =
+    let at-start = c .before .before .before .before in
+    row-stopped _ _ _ (at-start .pre .1) (found-full _ _ _ (omega (arith, c .before .available .ensures, c .if1 .taken)))
 
 handle-at-requires : tie.Need-handle-at-requires
 handle-at-requires c κs = search needs
@@ -29,15 +31,15 @@ same-length-2 c = search needs
 
 returns-2 : tie.Need-returns-2
 returns-2 c =
-    found-wrote _ _ _ _ _ _ _ _ _ (c .before .before .before .before .before .before .before .before .before .before .before .before .before .pre .1)
-    (c .before .before .before .before .before .before .before .before .before .before .available .ensures)
-    (c .before .before .before .before .before .before .before .before .before .if1 .left) _ _
-    (c .before .before .before .before .before .before .before .handle-at .ensures)
-    (c .before .before .before .before .before .before .before .before .before .before .before .before .before .pre .2)
-    (c .before .before .before .before .before .before .word .ensures .0)
-    (c .before .before .before .before .before .before .word .ensures .1)
-    (c .before .before .word2 .ensures .0)
-    (c .before .before .word2 .ensures .1)
+    let at-word2 = c .before .before in
+    let at-word = at-word2 .before .before .before .before in
+    let at-handle-at = at-word .before in
+    let at-if1 = at-handle-at .before .before in
+    let at-available = at-if1 .before in
+    let at-start = at-available .before .before .before in
+    found-wrote _ _ _ _ _ _ _ _ _ (at-start .pre .1) (at-available .available .ensures) (at-if1 .if1 .left) _ _
+    (at-handle-at .handle-at .ensures) (at-start .pre .2) (at-word .word .ensures .0) (at-word .word .ensures .1)
+    (at-word2 .word2 .ensures .0) (at-word2 .word2 .ensures .1)
 
 pub found-row-spec : {M : Type 1} → statement M
 found-row-spec =

@@ -35,13 +35,23 @@ part-same-start : tie.Need-part-same-start
 part-same-start c = search needs
 
 part-same-end : tie.Need-part-same-end
-part-same-end c = omega (arith, in-store (now (c .before .before .before .before .before .before .before .args .list)) (now (c .before .before .before .before .before .before .before .args .store)) _ _ (c .before .before .before .before .before .before .before .pre .1) (c .before .before .before .before .before .before .before .pre .0) (c .before .before .before .decode .ensures) (c .before .before .if1 .left))
+part-same-end c =
+    let at-decode = c .before .before .before in
+    let at-start = at-decode .before .before .before .before in
+    omega (
+      arith,
+      in-store (now (at-start .args .list)) (now (at-start .args .store)) _ _ (at-start .pre .1) (at-start .pre .0)
+          (at-decode .decode .ensures) (c .before .before .if1 .left),
+    )
 
 same-requires : tie.Need-same-requires
 same-requires c κs = search needs
 
 returns-2 : tie.Need-returns-2
-returns-2 c = c .same .ensures ∙ shared-holds _ _ _ _ (c .before .before .before .before .before .decode .ensures) (c .before .before .before .before .if1 .left)
+returns-2 c =
+    let at-if1 = c .before .before .before .before in
+    let at-decode = at-if1 .before in
+    c .same .ensures ∙ shared-holds _ _ _ _ (at-decode .decode .ensures) (at-if1 .if1 .left)
 
 pub holds-spec : {M : Type 1} → statement M
 holds-spec =

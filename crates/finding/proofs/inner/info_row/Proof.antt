@@ -16,7 +16,9 @@ uuid-requires : tie.Need-uuid-requires
 uuid-requires c κs = search needs
 
 returns : tie.Need-returns
-returns c = row-stopped _ _ _ (c .before .before .before .before .before .pre .1) (info-other _ _ _ _ _ (c .before .uuid .ensures) (c .if1 .taken))
+returns c =
+    let at-start = c .before .before .before .before .before in
+    row-stopped _ _ _ (at-start .pre .1) (info-other _ _ _ _ _ (c .before .uuid .ensures) (c .if1 .taken))
 
 available-requires : tie.Need-available-requires
 available-requires c κs = search needs
@@ -29,10 +31,11 @@ same-length c = search needs
 
 returns-2 : tie.Need-returns-2
 returns-2 c =
-    row-stopped _ _ _ (c .before .before .before .before .before .before .before .before .pre .1)
-    (info-full _ _ _ _ _ (c .before .before .before .before .uuid .ensures)
-    (c .before .before .before .if1 .left)
-    (omega (arith, c .before .available .ensures, c .if2 .taken)))
+    let at-if1 = c .before .before .before in
+    let at-uuid = at-if1 .before in
+    let at-start = at-uuid .before .before .before .before in
+    row-stopped _ _ _ (at-start .pre .1)
+    (info-full _ _ _ _ _ (at-uuid .uuid .ensures) (at-if1 .if1 .left) (omega (arith, c .before .available .ensures, c .if2 .taken)))
 
 handle-at-requires : tie.Need-handle-at-requires
 handle-at-requires c κs = search needs
@@ -48,16 +51,17 @@ same-length-2 c = search needs
 
 returns-3 : tie.Need-returns-3
 returns-3 c =
-    info-wrote _ _ _ _ _ _ _ _ _ _ (c .before .before .before .before .before .before .before .before .before .before .before .before .before .before .before .before .before .pre .1)
-    (c .before .before .before .before .before .before .before .before .before .before .available .ensures) _
-    (c .before .before .before .before .before .before .before .before .before .before .before .before .before .uuid .ensures)
-    (c .before .before .before .before .before .before .before .before .before .before .before .before .if1 .left) _
-    (c .before .before .before .before .before .before .before .handle-at .ensures)
-    (c .before .before .before .before .before .before .before .before .before .if2 .left)
-    (c .before .before .before .before .before .before .word .ensures .0)
-    (c .before .before .before .before .before .before .word .ensures .1)
-    (c .before .before .append .ensures .0)
-    (c .before .before .append .ensures .1)
+    let at-append = c .before .before in
+    let at-word = at-append .before .before .before .before in
+    let at-handle-at = at-word .before in
+    let at-if2 = at-handle-at .before .before in
+    let at-available = at-if2 .before in
+    let at-if1 = at-available .before .before in
+    let at-uuid = at-if1 .before in
+    let at-start = at-uuid .before .before .before .before in
+    info-wrote _ _ _ _ _ _ _ _ _ _ (at-start .pre .1) (at-available .available .ensures) _ (at-uuid .uuid .ensures) (at-if1 .if1 .left) _
+    (at-handle-at .handle-at .ensures) (at-if2 .if2 .left) (at-word .word .ensures .0) (at-word .word .ensures .1)
+    (at-append .append .ensures .0) (at-append .append .ensures .1)
 
 pub info-row-spec : {M : Type 1} → statement M
 info-row-spec =

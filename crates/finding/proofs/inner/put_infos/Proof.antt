@@ -18,7 +18,9 @@ abbrev μ-loop : tie.MeasureT-loop
 μ-loop list p size out₀ c₀ i₀ out c i = p .to - i
 
 loop-holds : tie.Need-loop-holds Inv-loop μ-loop
-loop-holds c = along-start _ _ _ _ _ _ (c .before .pre .0) (c .before .pre .1) (c .before .pre .2)
+loop-holds c =
+    let at-start = c .before in
+    along-start _ _ _ _ _ _ (at-start .pre .0) (at-start .pre .1) (at-start .pre .2)
 
 info-row-requires : tie.Need-info-row-requires Inv-loop μ-loop
 info-row-requires c κs = omega arith
@@ -28,9 +30,11 @@ same-length c = search needs
 
 returns : tie.Need-returns Inv-loop μ-loop
 returns c =
-    along-stop _ _ _ _ _ _ _ _ _ (c .before .before .before .before .before .before .before .before .loop .inv) (c .before .before .before .before .before .before .if1 .taken) _ _ _ (c .before .before .before .before .info-row .ensures)
-    (λ want w. info-as _ want _ _ _ w)
-    (c .if2 .taken)
+    let at-info-row = c .before .before .before .before in
+    let at-if1 = at-info-row .before .before in
+    let at-loop = at-if1 .before .before in
+    along-stop _ _ _ _ _ _ _ _ _ (at-loop .loop .inv) (at-if1 .if1 .taken) _ _ _ (at-info-row .info-row .ensures)
+    (λ want w. info-as _ want _ _ _ w) (c .if2 .taken)
 
 add-i : tie.Need-add-i Inv-loop μ-loop
 add-i c = omega arith
@@ -40,9 +44,11 @@ loop-less c = omega arith
 
 loop-again : tie.Need-loop-again Inv-loop μ-loop
 loop-again c =
-    along-more _ _ _ _ _ _ _ _ _ (c .before .before .before .before .before .before .before .before .loop .inv) (c .before .before .before .before .before .before .if1 .taken) _ _ _ (c .before .before .before .before .info-row .ensures)
-    (λ want w. info-as _ want _ _ _ w)
-    (c .if2 .left)
+    let at-info-row = c .before .before .before .before in
+    let at-if1 = at-info-row .before .before in
+    let at-loop = at-if1 .before .before in
+    along-more _ _ _ _ _ _ _ _ _ (at-loop .loop .inv) (at-if1 .if1 .taken) _ _ _ (at-info-row .info-row .ensures)
+    (λ want w. info-as _ want _ _ _ w) (c .if2 .left)
 
 same-length-2 : tie.Need-same-length-2 Inv-loop μ-loop
 same-length-2 c = search needs

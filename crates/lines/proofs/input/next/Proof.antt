@@ -1,7 +1,6 @@
 -- `lines::input::next` is safe and ends: its turns are counted down. Assumes nothing.
 use mathlib.Core.Path.{_≡_}
 use lib.ListN.{length}
-use Prim.Native.Nat.{_-_}
 use borrow.Author.Needs.{needs}
 use native.Mathlib.Omega.{arith}
 use Rattle.lines.proofs.input.next.Statement.{statement}

@@ -1,7 +1,7 @@
 -- `lines::parts::trimmed` is safe and ends: it goes back from the end. Assumes nothing.
 use borrow.Author.Needs.{needs}
 use lib.ListN.{length}
-use Prim.Native.Nat.{_-_, _≤_}
+use Prim.Native.Nat.{_≤_}
 use native.Mathlib.Omega.{arith}
 use Rattle.lines.proofs.parts.trimmed.Statement.{statement}
 use Rattle.lines.proofs.parts.trimmed.Tie as tie

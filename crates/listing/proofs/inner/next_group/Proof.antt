@@ -9,7 +9,9 @@ returns : tie.Need-returns
 returns c = λ t. absurd (true≢false (sym t ∙ not-true _ (c .if1 .taken)))
 
 next-group-requires : tie.Need-next-group-requires
-next-group-requires c κs = (c .before .before .pre .0, c .before .before .pre .1 (not-false _ (c .if1 .left)))
+next-group-requires c κs =
+    let at-start = c .before .before in
+    (at-start .pre .0, at-start .pre .1 (not-false _ (c .if1 .left)))
 
 returns-2 : tie.Need-returns-2
 returns-2 c = λ t. c .next-group .ensures

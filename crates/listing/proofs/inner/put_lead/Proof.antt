@@ -15,7 +15,12 @@ same-length : tie.Need-same-length
 same-length c = search needs
 
 returns : tie.Need-returns
-returns c = lead-plain _ _ _ _ _ _ _ _ (c .before .before .before .before .before .before .before .before .pre .0 .1) (c .before .before .before .before .before .handle-at .ensures) (c .before .before .before .before .word .ensures .0) (c .before .before .before .before .word .ensures .1) (not-true _ (c .if1 .taken))
+returns c =
+    let at-word = c .before .before .before .before in
+    let at-handle-at = at-word .before in
+    let at-start = at-handle-at .before .before .before in
+    lead-plain _ _ _ _ _ _ _ _ (at-start .pre .0 .1) (at-handle-at .handle-at .ensures) (at-word .word .ensures .0)
+    (at-word .word .ensures .1) (not-true _ (c .if1 .taken))
 
 word-requires-2 : tie.Need-word-requires-2
 word-requires-2 c κs = search needs
@@ -24,7 +29,15 @@ same-length-2 : tie.Need-same-length-2
 same-length-2 c = search needs
 
 returns-2 : tie.Need-returns-2
-returns-2 c = let g = not-false _ (c .before .before .before .before .if1 .left) in lead-group _ _ _ _ _ _ _ _ (c .before .before .before .before .before .before .before .before .before .before .before .before .pre .0 .1) (c .before .before .before .before .before .before .before .before .before .handle-at .ensures) (c .before .before .before .before .before .before .before .before .word .ensures .0) (c .before .before .before .before .before .before .before .before .word .ensures .1) g _ _ _ (c .before .before .before .before .before .before .before .before .before .before .before .before .pre .1 g) (c .before .before .word2 .ensures .0) (c .before .before .word2 .ensures .1)
+returns-2 c =
+    let at-word2 = c .before .before in
+    let at-if1 = at-word2 .before .before in
+    let at-word = at-if1 .before .before .before .before in
+    let at-handle-at = at-word .before in
+    let at-start = at-handle-at .before .before .before in
+    let g = not-false _ (at-if1 .if1 .left) in
+    lead-group _ _ _ _ _ _ _ _ (at-start .pre .0 .1) (at-handle-at .handle-at .ensures) (at-word .word .ensures .0)
+    (at-word .word .ensures .1) g _ _ _ (at-start .pre .1 g) (at-word2 .word2 .ensures .0) (at-word2 .word2 .ensures .1)
 
 pub put-lead-spec : {M : Type 1} → statement M
 put-lead-spec =

@@ -23,7 +23,9 @@ abbrev μ-loop : tie.MeasureT-loop
 μ-loop form list store table link p value uuid size out₀ c₀ i₀ group₀ out c i group = p .to - i
 
 loop-holds : tie.Need-loop-holds Inv-loop μ-loop
-loop-holds c = (along-start _ _ _ _ _ _ (c .before .before .before .before .pre .0 .0) (c .before .before .before .before .pre .0 .1) (c .before .before .before .before .pre .1 .1), λ t. no-group (c .before .before .before .before .args .list .now) _)
+loop-holds c =
+    let at-start = c .before .before .before .before in
+    (along-start _ _ _ _ _ _ (at-start .pre .0 .0) (at-start .pre .0 .1) (at-start .pre .1 .1), λ t. no-group (at-start .args .list .now) _)
 
 add-i : tie.Need-add-i Inv-loop μ-loop
 add-i c = omega arith
@@ -35,34 +37,88 @@ is-type-requires : tie.Need-is-type-requires Inv-loop μ-loop
 is-type-requires c κs = omega arith
 
 next-group-requires : tie.Need-next-group-requires Inv-loop μ-loop
-next-group-requires c κs = (omega (arith, c .before .before .before .before .if1 .taken, c .before .before .before .before .before .before .before .before .before .before .before .pre .0 .1), c .before .before .before .before .before .before .loop .inv .1)
+next-group-requires c κs =
+    let at-if1 = c .before .before .before .before in
+    let at-loop = at-if1 .before .before in
+    let at-start = at-loop .before .before .before .before .before in
+    (omega (arith, at-if1 .if1 .taken, at-start .pre .0 .1), at-loop .loop .inv .1)
 
 row-requires : tie.Need-row-requires Inv-loop μ-loop
-row-requires c κs = ((omega (arith, c .before .before .before .before .before .before .if1 .taken, c .before .before .before .before .before .before .before .before .before .before .before .before .before .pre .0 .1), c .before .before .before .before .before .before .before .before .before .before .before .before .before .pre .1 .0), ((c .before .before .before .before .before .before .before .before .loop .inv .0 .room, c .before .before .before .before .before .before .before .before .before .before .before .before .before .pre .1 .2, c .before .before .before .before .before .before .before .before .before .before .before .before .before .pre .1 .3), λ t. group-here (c .before .before .before .before .before .before .before .before .before .before .before .before .before .args .list .now) _ _ (c .before .next-group .ensures t .0) (c .before .next-group .ensures t .1)))
+row-requires c κs =
+    let at-next-group = c .before in
+    let at-if1 = at-next-group .before .before .before .before .before in
+    let at-loop = at-if1 .before .before in
+    let at-start = at-loop .before .before .before .before .before in (
+      (omega (arith, at-if1 .if1 .taken, at-start .pre .0 .1), at-start .pre .1 .0),
+      (
+        (at-loop .loop .inv .0 .room, at-start .pre .1 .2, at-start .pre .1 .3),
+        λ t. group-here (at-start .args .list .now) _ _ (at-next-group .next-group .ensures t .0)
+            (at-next-group .next-group .ensures t .1),
+      ),
+    )
 
 same-length : tie.Need-same-length Inv-loop μ-loop
 same-length c = search needs
 
 returns : tie.Need-returns Inv-loop μ-loop
-returns c = along-stop _ _ _ _ _ _ _ _ _ (c .before .before .before .before .before .before .before .before .before .before .before .before .before .loop .inv .0) (c .before .before .before .before .before .before .before .before .before .before .before .if1 .taken) _ _ _ (c .before .before .before .before .row .ensures) (λ want w. turn-any _ _ _ _ want _ _ (drop (c .before .before .before .before .before .before .before .before .before .before .before .before .before .loop .i + 1) (c .before .before .before .before .before .before .before .before .before .before .before .before .before .before .before .before .before .before .args .list .now)) (length (c .before .before .before .before .before .before .before .before .before .before .before .before .before .loop .out) - c .before .before .before .before .before .before .before .before .before .before .before .before .before .loop .c .len) (w ∙ sym (c .before .before .before .before .before .before .before .before .is-type .ensures) ∙ c .before .before .before .before .before .before .before .if3 .taken)) (c .if4 .taken)
+returns c =
+    let at-row = c .before .before .before .before in
+    let at-if3 = at-row .before .before .before in
+    let at-is-type = at-if3 .before in
+    let at-if1 = at-is-type .before .before .before in
+    let at-loop = at-if1 .before .before in
+    let at-start = at-loop .before .before .before .before .before in
+    along-stop _ _ _ _ _ _ _ _ _ (at-loop .loop .inv .0) (at-if1 .if1 .taken) _ _ _ (at-row .row .ensures)
+    (λ want w. turn-any _ _ _ _ want _ _ (drop (at-loop .loop .i + 1) (at-start .args .list .now))
+    (length (at-loop .loop .out) - at-loop .loop .c .len) (w ∙ sym (at-is-type .is-type .ensures) ∙ at-if3 .if3 .taken)) (c .if4 .taken)
 
 loop-less : tie.Need-loop-less Inv-loop μ-loop
 loop-less c = omega arith
 
 loop-again : tie.Need-loop-again Inv-loop μ-loop
-loop-again c = (along-more _ _ _ _ _ _ _ _ _ (c .before .before .before .before .before .before .before .before .before .before .before .before .before .loop .inv .0) (c .before .before .before .before .before .before .before .before .before .before .before .if1 .taken) _ _ _ (c .before .before .before .before .row .ensures) (λ want w. turn-any _ _ _ _ want _ _ (drop (c .before .before .before .before .before .before .before .before .before .before .before .before .before .loop .i + 1) (c .before .before .before .before .before .before .before .before .before .before .before .before .before .before .before .before .before .before .args .list .now)) (length (c .before .before .before .before .before .before .before .before .before .before .before .before .before .loop .out) - c .before .before .before .before .before .before .before .before .before .before .before .before .before .loop .c .len) (w ∙ sym (c .before .before .before .before .before .before .before .before .is-type .ensures) ∙ c .before .before .before .before .before .before .before .if3 .taken)) (c .if4 .left), λ t. group-later (c .before .before .before .before .before .before .before .before .before .before .before .before .before .before .before .before .before .before .args .list .now) _ _ (c .before .before .before .before .before .before .next-group .ensures t .1))
+loop-again c =
+    let at-row = c .before .before .before .before in
+    let at-next-group = at-row .before .before in
+    let at-if3 = at-next-group .before in
+    let at-is-type = at-if3 .before in
+    let at-if1 = at-is-type .before .before .before in
+    let at-loop = at-if1 .before .before in
+    let at-start = at-loop .before .before .before .before .before in (
+      along-more _ _ _ _ _ _ _ _ _ (at-loop .loop .inv .0) (at-if1 .if1 .taken) _ _ _ (at-row .row .ensures)
+          (λ want w. turn-any _ _ _ _ want _ _ (drop (at-loop .loop .i + 1) (at-start .args .list .now))
+          (length (at-loop .loop .out) - at-loop .loop .c .len) (w ∙ sym (at-is-type .is-type .ensures) ∙ at-if3 .if3 .taken))
+          (c .if4 .left),
+      λ t. group-later (at-start .args .list .now) _ _ (at-next-group .next-group .ensures t .1),
+    )
 
 loop-less-2 : tie.Need-loop-less-2 Inv-loop μ-loop
 loop-less-2 c = omega arith
 
 loop-again-2 : tie.Need-loop-again-2 Inv-loop μ-loop
-loop-again-2 c = (along-skip _ _ _ _ _ _ _ _ _ (c .before .before .before .before .before .before .loop .inv .0) (c .before .before .before .before .if1 .taken) (λ want w. turn-skip _ _ _ _ want _ _ (drop (c .before .before .before .before .before .before .loop .i + 1) (c .before .before .before .before .before .before .before .before .before .before .before .args .list .now)) (length (c .before .before .before .before .before .before .loop .out) - c .before .before .before .before .before .before .loop .c .len) (w ∙ sym (c .before .is-type .ensures) ∙ c .if3 .left)), λ t. group-later (c .before .before .before .before .before .before .before .before .before .before .before .args .list .now) _ _ (c .before .before .before .before .before .before .loop .inv .1 t))
+loop-again-2 c =
+    let at-if1 = c .before .before .before .before in
+    let at-loop = at-if1 .before .before in
+    let at-start = at-loop .before .before .before .before .before in (
+      along-skip _ _ _ _ _ _ _ _ _ (at-loop .loop .inv .0) (at-if1 .if1 .taken)
+          (λ want w. turn-skip _ _ _ _ want _ _ (drop (at-loop .loop .i + 1) (at-start .args .list .now))
+          (length (at-loop .loop .out) - at-loop .loop .c .len) (w ∙ sym (c .before .is-type .ensures) ∙ c .if3 .left)),
+      λ t. group-later (at-start .args .list .now) _ _ (at-loop .loop .inv .1 t),
+    )
 
 loop-less-3 : tie.Need-loop-less-3 Inv-loop μ-loop
 loop-less-3 c = omega arith
 
 loop-again-3 : tie.Need-loop-again-3 Inv-loop μ-loop
-loop-again-3 c = (along-skip _ _ _ _ _ _ _ _ _ (c .before .before .before .before .loop .inv .0) (c .before .before .if1 .taken) (λ want w. turn-skip _ _ _ _ want _ _ (drop (c .before .before .before .before .loop .i + 1) (c .before .before .before .before .before .before .before .before .before .args .list .now)) (length (c .before .before .before .before .loop .out) - c .before .before .before .before .loop .c .len) (w ∙ may-not _ _ _ (c .before .may-be .ensures .1) (c .before .before .before .before .before .before .before .before .before .pre .0 .2) (sym (c .before .may-be .ensures .0) ∙ c .if2 .left))), λ t. group-later (c .before .before .before .before .before .before .before .before .before .args .list .now) _ _ (c .before .before .before .before .loop .inv .1 t))
+loop-again-3 c =
+    let at-may-be = c .before in
+    let at-loop = at-may-be .before .before .before in
+    let at-start = at-loop .before .before .before .before .before in (
+      along-skip _ _ _ _ _ _ _ _ _ (at-loop .loop .inv .0) (c .before .before .if1 .taken)
+          (λ want w. turn-skip _ _ _ _ want _ _ (drop (at-loop .loop .i + 1) (at-start .args .list .now))
+          (length (at-loop .loop .out) - at-loop .loop .c .len)
+          (w ∙ may-not _ _ _ (at-may-be .may-be .ensures .1) (at-start .pre .0 .2) (sym (at-may-be .may-be .ensures .0) ∙ c .if2 .left))),
+      λ t. group-later (at-start .args .list .now) _ _ (at-loop .loop .inv .1 t),
+    )
 
 same-length-2 : tie.Need-same-length-2 Inv-loop μ-loop
 same-length-2 c = search needs

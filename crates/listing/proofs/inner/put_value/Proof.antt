@@ -10,13 +10,18 @@ put-lead-requires : tie.Need-put-lead-requires
 put-lead-requires c κs = search needs
 
 append-span-requires : tie.Need-append-span-requires
-append-span-requires c κs = ((behind-lead _ _ _ _ _ _ _ _ (c .before .before .before .before .before .before .before .before .pre .1 .0) (c .before .before .before .put-lead .ensures), omega arith), c .before .before .before .before .before .before .before .before .pre .0 .1)
+append-span-requires c κs =
+    let at-put-lead = c .before .before .before in
+    let at-start = at-put-lead .before .before .before .before .before in
+    ((behind-lead _ _ _ _ _ _ _ _ (at-start .pre .1 .0) (at-put-lead .put-lead .ensures), omega arith), at-start .pre .0 .1)
 
 same-length : tie.Need-same-length
 same-length c = search needs
 
 returns : tie.Need-returns
-returns c = wrote-then _ _ _ _ _ _ _ _ (c .before .before .before .before .before .before .put-lead .ensures) (c .before .before .append-span .ensures)
+returns c =
+    let at-put-lead = c .before .before .before .before .before .before in
+    wrote-then _ _ _ _ _ _ _ _ (at-put-lead .put-lead .ensures) (c .before .before .append-span .ensures)
 
 pub put-value-spec : {M : Type 1} → statement M
 put-value-spec = tie.close (tie.spec put-lead-requires append-span-requires same-length returns)

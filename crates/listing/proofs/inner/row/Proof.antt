@@ -27,7 +27,11 @@ same-length : tie.Need-same-length
 same-length c = search needs
 
 returns : tie.Need-returns
-returns c = row-stopped _ _ _ (c .before .before .before .before .before .before .before .pre .1 .0 .0) (turn-full _ _ _ _ anyEntry (c .before .before .before .before .before .before .before .args .size) _ (drop (c .before .before .before .before .before .before .before .args .i + 1) (now (c .before .before .before .before .before .before .before .args .list))) (length (now (c .before .before .before .before .before .before .before .args .out)) - c .before .before .before .before .before .before .before .args .c .len) refl (omega (arith, c .if1 .taken, c .before .before .available .ensures, c .before .extra .ensures .0)))
+returns c =
+    let at-start = c .before .before .before .before .before .before .before in
+    row-stopped _ _ _ (at-start .pre .1 .0 .0) (turn-full _ _ _ _ anyEntry (at-start .args .size) _
+    (drop (at-start .args .i + 1) (now (at-start .args .list))) (length (now (at-start .args .out)) - at-start .args .c .len) refl
+    (omega (arith, c .if1 .taken, c .before .before .available .ensures, c .before .extra .ensures .0)))
 
 locate-at-requires : tie.Need-locate-at-requires
 locate-at-requires c κs = search needs
@@ -42,7 +46,16 @@ same-length-2 : tie.Need-same-length-2
 same-length-2 c = search needs
 
 returns-2 : tie.Need-returns-2
-returns-2 c = row-stopped _ _ _ (c .before .before .before .before .before .before .before .before .before .before .pre .1 .0 .0) (no-value _ _ _ _ _ _ _ _ _ (c .enum-told .given .1) ∙ (turn-value _ _ _ _ anyEntry (c .before .before .before .before .before .before .before .before .before .before .args .size) _ (drop (c .before .before .before .before .before .before .before .before .before .before .args .i + 1) (now (c .before .before .before .before .before .before .before .before .before .before .args .list))) (length (now (c .before .before .before .before .before .before .before .before .before .before .args .out)) - c .before .before .before .before .before .before .before .before .before .before .args .c .len) refl (omega (arith, c .before .before .before .if1 .left, c .before .before .before .before .before .available .ensures, c .before .before .before .before .extra .ensures .0)) _ (ap (gotOf _ _) (c .before .before .locate-at .ensures) ∙ at-got _ _ _ _)))
+returns-2 c =
+    let at-if1 = c .before .before .before in
+    let at-extra = at-if1 .before in
+    let at-available = at-extra .before in
+    let at-start = at-available .before .before .before .before .before in
+    row-stopped _ _ _ (at-start .pre .1 .0 .0) (no-value _ _ _ _ _ _ _ _ _ (c .enum-told .given .1)
+    ∙ (turn-value _ _ _ _ anyEntry (at-start .args .size) _ (drop (at-start .args .i + 1) (now (at-start .args .list)))
+    (length (now (at-start .args .out)) - at-start .args .c .len) refl
+    (omega (arith, at-if1 .if1 .left, at-available .available .ensures, at-extra .extra .ensures .0)) _
+    (ap (gotOf _ _) (c .before .before .locate-at .ensures) ∙ at-got _ _ _ _)))
 
 cut-requires : tie.Need-cut-requires
 cut-requires c κs = search needs
@@ -51,16 +64,71 @@ same-length-3 : tie.Need-same-length-3
 same-length-3 c = search needs
 
 returns-3 : tie.Need-returns-3
-returns-3 c = row-stopped _ _ _ (c .before .before .before .before .before .before .before .before .before .before .before .before .before .pre .1 .0 .0) (other-size _ _ _ _ _ (c .before .before .before .before .before .before .before .before .before .before .before .before .before .args .size) (length (now (c .before .before .before .before .before .before .before .before .before .before .before .before .before .args .out)) - c .before .before .before .before .before .before .before .before .before .before .before .before .before .args .c .len) _ _ (c .before .before .before .s .given .1) (span-inside _ _ _ _ (c .before .before .before .s .given .1) (rw (c .before .before .before .before .before .locate-at .ensures) (at-inside _ _ (c .before .before .before .before .before .before .before .before .before .before .before .before .before .pre .0 .1 .table) _ (c .before .before .before .before .before .before .before .before .before .before .before .before .before .pre .0 .1 .right) _ (c .before .before .before .before .before .before .before .before .before .before .before .before .before .pre .0 .0) _))) _ (c .before .cut .ensures ∙ ap (λ (x : ℕ). cutTo (c .before .before .before .before .before .before .before .before .before .before .before .before .before .args .form) x (c .before .before .before .s .given .0 .0 .len)) (c .before .before .before .before .before .before .before .before .available .ensures)) (λ x. omega (arith, x, c .if2 .taken)) ∙ (turn-value _ _ _ _ anyEntry (c .before .before .before .before .before .before .before .before .before .before .before .before .before .args .size) _ (drop (c .before .before .before .before .before .before .before .before .before .before .before .before .before .args .i + 1) (now (c .before .before .before .before .before .before .before .before .before .before .before .before .before .args .list))) (length (now (c .before .before .before .before .before .before .before .before .before .before .before .before .before .args .out)) - c .before .before .before .before .before .before .before .before .before .before .before .before .before .args .c .len) refl (omega (arith, c .before .before .before .before .before .before .if1 .left, c .before .before .before .before .before .before .before .before .available .ensures, c .before .before .before .before .before .before .before .extra .ensures .0)) _ (ap (gotOf _ _) (c .before .before .before .before .before .locate-at .ensures) ∙ at-got _ _ _ _)))
+returns-3 c =
+    let at-s = c .before .before .before in
+    let at-locate-at = at-s .before .before in
+    let at-if1 = at-locate-at .before in
+    let at-extra = at-if1 .before in
+    let at-available = at-extra .before in
+    let at-start = at-available .before .before .before .before .before in
+    row-stopped _ _ _ (at-start .pre .1 .0 .0) (other-size _ _ _ _ _ (at-start .args .size)
+    (length (now (at-start .args .out)) - at-start .args .c .len) _ _ (at-s .s .given .1)
+    (span-inside _ _ _ _ (at-s .s .given .1) (rw (at-locate-at .locate-at .ensures)
+    (at-inside _ _ (at-start .pre .0 .1 .table) _ (at-start .pre .0 .1 .right) _ (at-start .pre .0 .0) _))) _
+    (c .before .cut .ensures ∙ ap (λ (x : ℕ). cutTo (at-start .args .form) x (at-s .s .given .0 .0 .len))
+    (at-available .available .ensures)) (λ x. omega (arith, x, c .if2 .taken))
+    ∙ (turn-value _ _ _ _ anyEntry (at-start .args .size) _ (drop (at-start .args .i + 1) (now (at-start .args .list)))
+    (length (now (at-start .args .out)) - at-start .args .c .len) refl
+    (omega (arith, at-if1 .if1 .left, at-available .available .ensures, at-extra .extra .ensures .0)) _
+    (ap (gotOf _ _) (at-locate-at .locate-at .ensures) ∙ at-got _ _ _ _)))
 
 put-value-requires : tie.Need-put-value-requires
-put-value-requires c κs = ((c .before .before .before .before .before .before .before .before .before .before .before .before .before .before .pre .0 .0, (span-inside _ _ _ _ (c .before .before .before .before .s .given .1) (rw (c .before .before .before .before .before .before .locate-at .ensures) (at-inside _ _ (c .before .before .before .before .before .before .before .before .before .before .before .before .before .before .pre .0 .1 .table) _ (c .before .before .before .before .before .before .before .before .before .before .before .before .before .before .pre .0 .1 .right) _ (c .before .before .before .before .before .before .before .before .before .before .before .before .before .before .pre .0 .0) _))), omega (arith, cut-le (c .before .before .before .before .before .before .before .before .before .before .before .before .before .before .args .form) (c .before .before .before .before .before .before .before .before .before .available .result) (c .before .before .before .before .s .given .0 .0 .len), c .before .before .cut .ensures, c .before .if2 .left)), (omega (arith, c .before .before .before .before .before .before .before .if1 .left, c .before .before .before .before .before .before .before .before .before .available .ensures, c .before .before .before .before .before .before .before .before .extra .ensures .0, c .before .before .before .before .before .before .before .before .before .before .before .before .before .before .pre .1 .0 .0), c .before .before .before .before .before .before .before .before .before .before .before .before .before .before .pre .1 .1))
+put-value-requires c κs =
+    let at-s = c .before .before .before .before in
+    let at-locate-at = at-s .before .before in
+    let at-if1 = at-locate-at .before in
+    let at-extra = at-if1 .before in
+    let at-available = at-extra .before in
+    let at-start = at-available .before .before .before .before .before in (
+      (
+        at-start .pre .0 .0,
+        (span-inside _ _ _ _ (at-s .s .given .1) (rw (at-locate-at .locate-at .ensures)
+            (at-inside _ _ (at-start .pre .0 .1 .table) _ (at-start .pre .0 .1 .right) _ (at-start .pre .0 .0) _))),
+        omega (
+          arith,
+          cut-le (at-start .args .form) (at-available .available .result) (at-s .s .given .0 .0 .len),
+          c .before .before .cut .ensures,
+          c .before .if2 .left,
+        ),
+      ),
+      (
+        omega (arith, at-if1 .if1 .left, at-available .available .ensures, at-extra .extra .ensures .0, at-start .pre .1 .0 .0),
+        at-start .pre .1 .1,
+      ),
+    )
 
 same-length-4 : tie.Need-same-length-4
 same-length-4 c = search needs
 
 returns-4 : tie.Need-returns-4
-returns-4 c = row-written _ _ _ _ _ _ (row-is _ _ _ _ _ (c .before .before .before .before .before .before .before .before .before .before .before .before .before .before .before .before .before .args .size) (length (now (c .before .before .before .before .before .before .before .before .before .before .before .before .before .before .before .before .before .args .out)) - c .before .before .before .before .before .before .before .before .before .before .before .before .before .before .before .before .before .args .c .len) _ _ (c .before .before .before .before .before .before .before .s .given .1) (span-inside _ _ _ _ (c .before .before .before .before .before .before .before .s .given .1) (rw (c .before .before .before .before .before .before .before .before .before .locate-at .ensures) (at-inside _ _ (c .before .before .before .before .before .before .before .before .before .before .before .before .before .before .before .before .before .pre .0 .1 .table) _ (c .before .before .before .before .before .before .before .before .before .before .before .before .before .before .before .before .before .pre .0 .1 .right) _ (c .before .before .before .before .before .before .before .before .before .before .before .before .before .before .before .before .before .pre .0 .0) _))) _ (c .before .before .before .before .before .cut .ensures ∙ ap (λ (x : ℕ). cutTo (c .before .before .before .before .before .before .before .before .before .before .before .before .before .before .before .before .before .args .form) x (c .before .before .before .before .before .before .before .s .given .0 .0 .len)) (c .before .before .before .before .before .before .before .before .before .before .before .before .available .ensures)) (c .before .before .before .before .if2 .left) ∙ (turn-value _ _ _ _ anyEntry (c .before .before .before .before .before .before .before .before .before .before .before .before .before .before .before .before .before .args .size) _ (drop (c .before .before .before .before .before .before .before .before .before .before .before .before .before .before .before .before .before .args .i + 1) (now (c .before .before .before .before .before .before .before .before .before .before .before .before .before .before .before .before .before .args .list))) (length (now (c .before .before .before .before .before .before .before .before .before .before .before .before .before .before .before .before .before .args .out)) - c .before .before .before .before .before .before .before .before .before .before .before .before .before .before .before .before .before .args .c .len) refl (omega (arith, c .before .before .before .before .before .before .before .before .before .before .if1 .left, c .before .before .before .before .before .before .before .before .before .before .before .before .available .ensures, c .before .before .before .before .before .before .before .before .before .before .before .extra .ensures .0)) _ (ap (gotOf _ _) (c .before .before .before .before .before .before .before .before .before .locate-at .ensures) ∙ at-got _ _ _ _))) (some-bytes _ _ _ _) (c .before .before .put-value .ensures)
+returns-4 c =
+    let at-if2 = c .before .before .before .before in
+    let at-cut = at-if2 .before in
+    let at-s = at-cut .before .before in
+    let at-locate-at = at-s .before .before in
+    let at-if1 = at-locate-at .before in
+    let at-extra = at-if1 .before in
+    let at-available = at-extra .before in
+    let at-start = at-available .before .before .before .before .before in
+    row-written _ _ _ _ _ _ (row-is _ _ _ _ _ (at-start .args .size) (length (now (at-start .args .out)) - at-start .args .c .len) _ _
+    (at-s .s .given .1) (span-inside _ _ _ _ (at-s .s .given .1) (rw (at-locate-at .locate-at .ensures)
+    (at-inside _ _ (at-start .pre .0 .1 .table) _ (at-start .pre .0 .1 .right) _ (at-start .pre .0 .0) _))) _
+    (at-cut .cut .ensures ∙ ap (λ (x : ℕ). cutTo (at-start .args .form) x (at-s .s .given .0 .0 .len)) (at-available .available .ensures))
+    (at-if2 .if2 .left)
+    ∙ (turn-value _ _ _ _ anyEntry (at-start .args .size) _ (drop (at-start .args .i + 1) (now (at-start .args .list)))
+    (length (now (at-start .args .out)) - at-start .args .c .len) refl
+    (omega (arith, at-if1 .if1 .left, at-available .available .ensures, at-extra .extra .ensures .0)) _
+    (ap (gotOf _ _) (at-locate-at .locate-at .ensures) ∙ at-got _ _ _ _))) (some-bytes _ _ _ _) (c .before .before .put-value .ensures)
 
 pub row-spec : {M : Type 1} → statement M
 row-spec =

@@ -15,7 +15,9 @@ is-zero-requires : tie.Need-is-zero-requires
 is-zero-requires c κs = search needs
 
 returns-2 : tie.Need-returns-2
-returns-2 c = c .is-zero .ensures ∙ by-zeros _ (c .before .before .before .if1 .left)
+returns-2 c =
+    let at-if1 = c .before .before .before in
+    c .is-zero .ensures ∙ by-zeros _ (at-if1 .if1 .left)
 
 pub is-empty-spec : {M : Type 1} → statement M
 is-empty-spec = tie.close (tie.spec returns slice-aggregate-is-zero is-zero-requires returns-2)

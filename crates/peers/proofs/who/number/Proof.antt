@@ -84,15 +84,14 @@ add-result c = search needs
 
 returns : tie.Need-returns
 returns c =
-    let six = sym (length-map (c .before .before .before .before .before .before .before .before .args .a .addr) (λ (x : ℕ). x)) ∙ c .before .before .before .before .before .before .before .before .good .0 .1 .1 .1 .0 .1 .0 .1 in
-    is-number _ six _ _ _ _ _ _ _
-    (c .wide7 .ensures)
-    (c .before .wide6 .ensures)
-    (c .before .before .wide5 .ensures)
-    (c .before .before .before .wide4 .ensures)
-    (c .before .before .before .before .wide3 .ensures)
-    (c .before .before .before .before .before .wide2 .ensures)
-    (c .before .before .before .before .before .before .wide .ensures)
+    let at-wide4 = c .before .before .before in
+    let at-wide3 = at-wide4 .before in
+    let at-wide2 = at-wide3 .before in
+    let at-wide = at-wide2 .before in
+    let at-start = at-wide .before .before in
+    let six = sym (length-map (at-start .args .a .addr) (λ (x : ℕ). x)) ∙ at-start .good .0 .1 .1 .1 .0 .1 .0 .1 in
+    is-number _ six _ _ _ _ _ _ _ (c .wide7 .ensures) (c .before .wide6 .ensures) (c .before .before .wide5 .ensures)
+    (at-wide4 .wide4 .ensures) (at-wide3 .wide3 .ensures) (at-wide2 .wide2 .ensures) (at-wide .wide .ensures)
 
 pub number-spec : {M : Type 1} → statement M
 number-spec =

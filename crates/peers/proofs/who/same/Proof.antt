@@ -11,7 +11,9 @@ number-requires-2 : tie.Need-number-requires-2
 number-requires-2 c κs = search needs
 
 returns : tie.Need-returns
-returns c = rw (c .before .number .ensures .0, c .number2 .ensures .0) (by-number _ _ (c .before .number .ensures .1) (c .number2 .ensures .1))
+returns c =
+    let at-number = c .before in
+    rw (at-number .number .ensures .0, c .number2 .ensures .0) (by-number _ _ (at-number .number .ensures .1) (c .number2 .ensures .1))
 
 pub same-spec : {M : Type 1} → statement M
 same-spec = tie.close (tie.spec number-requires number-requires-2 returns)

@@ -7,16 +7,22 @@ use Rattle.reading.proofs.inner.read.Statement.{statement}
 use Rattle.reading.proofs.inner.read.Tie as tie
 
 locate-requires : tie.Need-locate-requires
-locate-requires c κs = (ascending _ _ (c .before .before .before .pre .1 .right), c .before .before .before .pre .1 .table)
+locate-requires c κs =
+    let at-start = c .before .before .before in
+    (ascending _ _ (at-start .pre .1 .right), at-start .pre .1 .table)
 
 respond-requires : tie.Need-respond-requires
-respond-requires c κs = (c .before .before .before .before .before .pre .0, rw (c .before .locate .ensures) (inside _ _ (c .before .before .before .before .before .pre .1 .table) _ (c .before .before .before .before .before .pre .1 .right) _ _))
+respond-requires c κs =
+    let at-start = c .before .before .before .before .before in
+    (at-start .pre .0, rw (c .before .locate .ensures) (inside _ _ (at-start .pre .1 .table) _ (at-start .pre .1 .right) _ _))
 
 same-length : tie.Need-same-length
 same-length c = search needs
 
 returns : tie.Need-returns
-returns c = rw (c .before .before .before .before .locate .ensures, got, from-start) at (c .before .before .respond .ensures)
+returns c =
+    let at-locate = c .before .before .before .before in
+    rw (at-locate .locate .ensures, got, from-start) at (c .before .before .respond .ensures)
 
 pub read-spec : {M : Type 1} → statement M
 read-spec = tie.close (tie.spec locate-requires respond-requires same-length returns)

@@ -15,7 +15,9 @@ same-length : tie.Need-same-length
 same-length c = search needs
 
 returns : tie.Need-returns
-returns c = sent-as _ _ _ _ _ (c .before .before .error-response .ensures) (no-handle _ (c .before .before .before .before .if1 .taken))
+returns c =
+    let at-if1 = c .before .before .before .before in
+    sent-as _ _ _ _ _ (c .before .before .error-response .ensures) (no-handle _ (at-if1 .if1 .taken))
 
 get-requires : tie.Need-get-requires
 get-requires c κs = search needs
@@ -27,7 +29,11 @@ same-length-2 : tie.Need-same-length-2
 same-length-2 c = search needs
 
 returns-2 : tie.Need-returns-2
-returns-2 c = sent-as _ _ _ _ _ (c .before .before .error-response2 .ensures) (ap (λ (h : ℕ). errorRsp 0x0E h 0x0A) (c .before .before .before .get .ensures) ∙ a-handle _ (c .before .before .before .before .before .if1 .left))
+returns-2 c =
+    let at-get = c .before .before .before in
+    let at-if1 = at-get .before .before in
+    sent-as _ _ _ _ _ (c .before .before .error-response2 .ensures)
+    (ap (λ (h : ℕ). errorRsp 0x0E h 0x0A) (at-get .get .ensures) ∙ a-handle _ (at-if1 .if1 .left))
 
 pub read-multiple-spec : {M : Type 1} → statement M
 read-multiple-spec =

@@ -17,13 +17,20 @@ enum-known-slot : tie.Need-enum-known-slot
 enum-known-slot c = search needs
 
 mul-ask : tie.Need-mul-ask
-mul-ask c = omega (arith, c .before .before .before .before .before .before .pre .0 .own .inside _ (c .before .slot .given .1), c .before .before .before .before .before .before .pre .0 .own .tables .eight)
+mul-ask c =
+    let at-start = c .before .before .before .before .before .before in
+    omega (arith, at-start .pre .0 .own .inside _ (c .before .slot .given .1), at-start .pre .0 .own .tables .eight)
 
 shared-slice-element-ask : tie.Need-shared-slice-element-ask
-shared-slice-element-ask c = omega (arith, c .before .before .before .before .before .before .pre .0 .own .inside _ (c .before .slot .given .1), c .before .before .before .before .before .before .pre .0 .own .tables .eight)
+shared-slice-element-ask c =
+    let at-start = c .before .before .before .before .before .before in
+    omega (arith, at-start .pre .0 .own .inside _ (c .before .slot .given .1), at-start .pre .0 .own .tables .eight)
 
 ask-requires : tie.Need-ask-requires
-ask-requires c κs = (own-table _ _ _ _ (c .before .before .before .before .before .before .before .before .before .pre .0) _ (c .before .before .before .before .slot .given .1), c .before .before .before .before .before .before .before .before .before .pre .1)
+ask-requires c κs =
+    let at-slot = c .before .before .before .before in
+    let at-start = at-slot .before .before .before .before .before in
+    (own-table _ _ _ _ (at-start .pre .0) _ (at-slot .slot .given .1), at-start .pre .1)
 
 enum-told : tie.Need-enum-told
 enum-told c = search needs
@@ -32,23 +39,31 @@ slice-aggregate-ask : tie.Need-slice-aggregate-ask
 slice-aggregate-ask c = search needs
 
 ask-requires-2 : tie.Need-ask-requires-2
-ask-requires-2 c κs = (empty-table _ _ _ _ (c .before .before .before .before .before .before .before .pre .0), c .before .before .before .before .before .before .before .pre .1)
+ask-requires-2 c κs =
+    let at-start = c .before .before .before .before .before .before .before in
+    (empty-table _ _ _ _ (at-start .pre .0), at-start .pre .1)
 
 same-length : tie.Need-same-length
 same-length c = search needs
 
 returns : tie.Need-returns
 returns c =
-    let a = c .before .before .before .before .before .before .before .before .before .before .before .before .args in
-    sent-as _ _ _ _ _ (c .before .before .ask .ensures) (ap (λ (t : List ℕ). askRsp (seenAll (a .link) (now (a .list)) (now (a .store)) t) (length (now (a .out))) (a .rq) (now (a .d))) (table-there _ _ _ (c .before .before .before .before .before .before .before .slot .given .1)))
+    let at-slot = c .before .before .before .before .before .before .before in
+    let at-start = at-slot .before .before .before .before .before in
+    let a = at-start .args in
+    sent-as _ _ _ _ _ (c .before .before .ask .ensures) (ap (λ (t : List ℕ). askRsp (seenAll (a .link) (now (a .list)) (now (a .store)) t)
+    (length (now (a .out))) (a .rq) (now (a .d))) (table-there _ _ _ (at-slot .slot .given .1)))
 
 same-length-2 : tie.Need-same-length-2
 same-length-2 c = search needs
 
 returns-2 : tie.Need-returns-2
 returns-2 c =
-    let a = c .before .before .before .before .before .before .before .before .before .before .args in
-    sent-as _ _ _ _ _ (c .before .before .ask2 .ensures) (ap (λ (t : List ℕ). askRsp (seenAll (a .link) (now (a .list)) (now (a .store)) t) (length (now (a .out))) (a .rq) (now (a .d))) (table-none _ _ (c .before .before .before .before .before .enum-told .given .1)))
+    let at-told = c .before .before .before .before .before in
+    let at-start = at-told .before .before .before .before .before in
+    let a = at-start .args in
+    sent-as _ _ _ _ _ (c .before .before .ask2 .ensures) (ap (λ (t : List ℕ). askRsp (seenAll (a .link) (now (a .list)) (now (a .store)) t)
+    (length (now (a .out))) (a .rq) (now (a .d))) (table-none _ _ (at-told .enum-told .given .1)))
 
 pub ask-from-spec : {M : Type 1} → statement M
 ask-from-spec =

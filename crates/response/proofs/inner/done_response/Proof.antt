@@ -25,13 +25,22 @@ same-length : tie.Need-same-length
 same-length c = search needs
 
 returns : tie.Need-returns
-returns c = sent-as _ _ _ _ _ (sent _ _ _ _ _ (c .before .before .before .before .new .ensures .0) (one-byte _ _ _ _ _ (c .before .before .before .before .new .ensures .0) (omega (arith, c .before .before .before .before .before .before .before .before .pre)) (c .before .before .byte .ensures .0) (c .before .before .byte .ensures .1))) (rw (c .before .before .before .before .before .enum-told .given .1))
+returns c =
+    let at-byte = c .before .before in
+    let at-new = at-byte .before .before in
+    let at-told = at-new .before in
+    let at-start = at-told .before .before .before in
+    sent-as _ _ _ _ _ (sent _ _ _ _ _ (at-new .new .ensures .0)
+    (one-byte _ _ _ _ _ (at-new .new .ensures .0) (omega (arith, at-start .pre)) (at-byte .byte .ensures .0) (at-byte .byte .ensures .1)))
+    (rw (at-told .enum-told .given .1))
 
 same-length-2 : tie.Need-same-length-2
 same-length-2 c = search needs
 
 returns-2 : tie.Need-returns-2
-returns-2 c = sent-as _ _ _ _ _ (c .before .before .error-response .ensures) (rw (c .before .before .before .before .before .done .given .1))
+returns-2 c =
+    let at-done = c .before .before .before .before .before in
+    sent-as _ _ _ _ _ (c .before .before .error-response .ensures) (rw (at-done .done .given .1))
 
 pub done-response-spec : {M : Type 1} → statement M
 done-response-spec =

@@ -24,7 +24,16 @@ same-length : tie.Need-same-length
 same-length c = search needs
 
 returns : tie.Need-returns
-returns c = error _ _ _ _ _ _ _ _ _ _ _ _ _ (omega (arith, c .before .before .before .before .before .before .before .before .before .before .before .before .before .before .before .before .before .before .pre)) (c .before .before .before .before .before .before .before .before .before .before .before .before .before .before .before .before .new .ensures .0) (c .before .before .before .before .before .before .before .before .before .before .before .before .before .before .byte .ensures .0) (c .before .before .before .before .before .before .before .before .before .before .before .before .before .before .byte .ensures .1) (c .before .before .before .before .before .before .before .before .before .before .byte2 .ensures .0) (c .before .before .before .before .before .before .before .before .before .before .byte2 .ensures .1) (c .before .before .before .before .before .before .word .ensures .0) (c .before .before .before .before .before .before .word .ensures .1) (c .before .before .byte3 .ensures .0) (c .before .before .byte3 .ensures .1)
+returns c =
+    let at-byte3 = c .before .before in
+    let at-word = at-byte3 .before .before .before .before in
+    let at-byte2 = at-word .before .before .before .before in
+    let at-byte = at-byte2 .before .before .before .before in
+    let at-new = at-byte .before .before in
+    let at-start = at-new .before .before in
+    error _ _ _ _ _ _ _ _ _ _ _ _ _ (omega (arith, at-start .pre)) (at-new .new .ensures .0) (at-byte .byte .ensures .0)
+    (at-byte .byte .ensures .1) (at-byte2 .byte2 .ensures .0) (at-byte2 .byte2 .ensures .1) (at-word .word .ensures .0)
+    (at-word .word .ensures .1) (at-byte3 .byte3 .ensures .0) (at-byte3 .byte3 .ensures .1)
 
 pub error-response-spec : {M : Type 1} → statement M
 error-response-spec =

@@ -21,10 +21,14 @@ is-zero-requires : tie.Need-is-zero-requires
 is-zero-requires c κs = search needs
 
 returns : tie.Need-returns
-returns c = c .is-zero .ensures ∙ clear-empty _ _ _ _ (sym (c .before .before .before .is-empty .ensures) ∙ c .before .before .if1 .taken)
+returns c =
+    let at-is-empty = c .before .before .before in
+    c .is-zero .ensures ∙ clear-empty _ _ _ _ (sym (at-is-empty .is-empty .ensures) ∙ c .before .before .if1 .taken)
 
 returns-2 : tie.Need-returns-2
-returns-2 c = clear-taken (c .before .before .before .before .args .base) (c .before .before .before .before .args .end) _ (c .before .before .before .before .args .t .now) (sym (c .before .is-empty .ensures) ∙ c .if1 .left)
+returns-2 c =
+    let at-start = c .before .before .before .before in
+    clear-taken (at-start .args .base) (at-start .args .end) _ (at-start .args .t .now) (sym (c .before .is-empty .ensures) ∙ c .if1 .left)
 
 pub clear-ok-spec : {M : Type 1} → statement M
 clear-ok-spec =

@@ -36,7 +36,9 @@ same-length : tie.Need-same-length Inv-loop μ-loop
 same-length c = c .before .loop .inv .1
 
 returns : tie.Need-returns Inv-loop μ-loop
-returns c = filled _ (c .before .before .args .tables .now) (c .before .loop .i) _ (omega arith) (c .before .loop .inv .2)
+returns c =
+    let at-loop = c .before in
+    filled _ (c .before .before .args .tables .now) (at-loop .loop .i) _ (omega arith) (at-loop .loop .inv .2)
 
 pub fill-spec : {M : Type 1} → statement M
 fill-spec =

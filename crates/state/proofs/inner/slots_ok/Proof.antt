@@ -7,6 +7,9 @@ use Rattle.table_view.specs.Layout.{baseOf, endOf}
 use denote.Ref.{now}
 use borrow.Author.Tests.{not-true, not-false}
 use lib.ListN.{length}
+use Rattle.wire.specs.Size.{slotCount, tableBytes}
+use Rattle.peers.specs.Bytes.{rowOf}
+use Rattle.peers.proofs.Rows.{length-row}
 use Prim.Native.Nat.{_-_}
 use mathlib.Core.List.{[]}
 use mathlib.Core.Bool.{true}
@@ -15,50 +18,117 @@ use native.Mathlib.Omega.{arith}
 use Rattle.state.proofs.inner.slots_ok.Statement.{statement}
 use Rattle.state.proofs.inner.slots_ok.Tie as tie
 
-row-long : (c : tie.Start) → length (c .args .row) ≡ 8
-row-long c = omega (arith, c .good)
+row-long : (c : tie.Start) → length (rowOf (now (c .args .row))) ≡ slotCount
+row-long c = length-row (now (c .args .row)) ∙ c .pre .2
 
-fresh-long : (c : tie.After-values-base-arg) → length (now (c .before .args .fresh)) ≡ 640
+fresh-long : (c : tie.After-values-base-arg) → length (now (c .before .args .fresh)) ≡ tableBytes
 fresh-long c = search (c .values-base-arg .given)
 
-sizes : (c : tie.After-same-front) → every sized (now (c .before .before .before .args .all)) ≡ true
+sizes : (c : tie.After-same-front) →
+    let at-start = c .before .before .before in
+    every sized (now (at-start .args .all)) ≡ true
 sizes c = c .same-front .ensures .1 (omega (arith, c .before .values-base .ensures .0))
 
-front : (c : tie.After-same-front) → c .same-front .result ≡ every (agrees (now (c .before .before .before .args .fresh)) (baseOf (now (c .before .before .before .args .fresh))) 0) (now (c .before .before .before .args .all))
+front : (c : tie.After-same-front) →
+    let at-start = c .before .before .before in
+    c .same-front .result ≡ every (agrees (now (at-start .args .fresh)) (baseOf (now (at-start .args .fresh))) 0)
+    (now (at-start .args .all))
 front c = c .same-front .ensures .0 ∙ rw (c .before .values-base .ensures .0) refl
 
-tail : (c : tie.After-zero-from) → c .zero-from .result ≡ every (agrees [] (640 - endOf (now (c .before .before .before .before .before .before .before .args .fresh))) (endOf (now (c .before .before .before .before .before .before .before .args .fresh)))) (now (c .before .before .before .before .before .before .before .args .all))
+tail : (c : tie.After-zero-from) →
+    let at-start = c .before .before .before .before .before .before .before in
+    c .zero-from .result ≡ every (agrees [] (tableBytes - endOf (now (at-start .args .fresh))) (endOf (now (at-start .args .fresh))))
+    (now (at-start .args .all))
 tail c = c .zero-from .ensures ∙ rw (c .before .values-end .ensures .0) refl
 
 values-base-requires : tie.Need-values-base-requires
 values-base-requires c κs = long _ (is-table _ (c .before .pre .1))
 
 same-front-requires : tie.Need-same-front-requires
-same-front-requires c κs = (c .before .before .pre .0, omega (arith, fits _ (is-table _ (c .before .before .pre .1)), fresh-long (c .before), c .values-base .ensures .0))
+same-front-requires c κs =
+    let at-start = c .before .before in
+    (at-start .pre .0, omega (arith, fits _ (is-table _ (at-start .pre .1)), fresh-long (c .before), c .values-base .ensures .0))
 
 returns : tie.Need-returns
-returns c = not-slots (c .before .before .before .before .args .fresh .now) (c .before .before .before .before .args .row) (c .before .before .before .before .args .all .now) (fresh-long (c .before .before .before)) (c .before .before .before .before .pre .1) (row-long (c .before .before .before .before)) (c .before .before .before .before .pre .0) (sizes (c .before)) _ (fronts (c .before .before .before .before .args .fresh .now) (c .before .before .before .before .args .row) (c .before .before .before .before .args .all .now) (fresh-long (c .before .before .before)) (c .before .before .before .before .pre .1) (row-long (c .before .before .before .before)) (c .before .before .before .before .pre .0) (sizes (c .before))) (sym (front (c .before)) ∙ not-true _ (c .if1 .taken))
+returns c =
+    let at-same-front = c .before in
+    let at-values-base-arg = at-same-front .before .before in
+    let at-start = at-values-base-arg .before in
+    not-slots (at-start .args .fresh .now) (rowOf (now (at-start .args .row))) (at-start .args .all .now) (fresh-long at-values-base-arg)
+    (at-start .pre .1) (row-long at-start) (at-start .pre .0) (sizes at-same-front) _
+    (fronts (at-start .args .fresh .now) (rowOf (now (at-start .args .row))) (at-start .args .all .now) (fresh-long at-values-base-arg)
+    (at-start .pre .1) (row-long at-start) (at-start .pre .0) (sizes at-same-front))
+    (sym (front at-same-front) ∙ not-true _ (c .if1 .taken))
 
 values-end-requires : tie.Need-values-end-requires
-values-end-requires c κs = long _ (is-table _ (c .before .before .before .before .before .pre .1))
+values-end-requires c κs =
+    let at-start = c .before .before .before .before .before in
+    long _ (is-table _ (at-start .pre .1))
 
 zero-from-requires : tie.Need-zero-from-requires
-zero-from-requires c κs = (c .before .before .before .before .before .before .pre .0, omega (arith, fits _ (is-table _ (c .before .before .before .before .before .before .pre .1)), fresh-long (c .before .before .before .before .before), c .values-end .ensures .0))
+zero-from-requires c κs =
+    let at-values-base-arg = c .before .before .before .before .before in
+    let at-start = at-values-base-arg .before in
+    (at-start .pre .0, omega (arith, fits _ (is-table _ (at-start .pre .1)), fresh-long at-values-base-arg, c .values-end .ensures .0))
 
 returns-2 : tie.Need-returns-2
-returns-2 c = not-slots (c .before .before .before .before .before .before .before .before .args .fresh .now) (c .before .before .before .before .before .before .before .before .args .row) (c .before .before .before .before .before .before .before .before .args .all .now) (fresh-long (c .before .before .before .before .before .before .before)) (c .before .before .before .before .before .before .before .before .pre .1) (row-long (c .before .before .before .before .before .before .before .before)) (c .before .before .before .before .before .before .before .before .pre .0) (sizes (c .before .before .before .before .before)) _ (tails (c .before .before .before .before .before .before .before .before .args .fresh .now) (c .before .before .before .before .before .before .before .before .args .row) (c .before .before .before .before .before .before .before .before .args .all .now) (fresh-long (c .before .before .before .before .before .before .before)) (c .before .before .before .before .before .before .before .before .pre .1) (row-long (c .before .before .before .before .before .before .before .before)) (c .before .before .before .before .before .before .before .before .pre .0) (sizes (c .before .before .before .before .before))) (sym (tail (c .before)) ∙ not-true _ (c .if2 .taken))
+returns-2 c =
+    let at-same-front = c .before .before .before .before .before in
+    let at-values-base-arg = at-same-front .before .before in
+    let at-start = at-values-base-arg .before in
+    not-slots (at-start .args .fresh .now) (rowOf (now (at-start .args .row))) (at-start .args .all .now) (fresh-long at-values-base-arg)
+    (at-start .pre .1) (row-long at-start) (at-start .pre .0) (sizes at-same-front) _
+    (tails (at-start .args .fresh .now) (rowOf (now (at-start .args .row))) (at-start .args .all .now) (fresh-long at-values-base-arg)
+    (at-start .pre .1) (row-long at-start) (at-start .pre .0) (sizes at-same-front)) (sym (tail (c .before)) ∙ not-true _ (c .if2 .taken))
 
 values-ok-requires : tie.Need-values-ok-requires
-values-ok-requires c κs = ((c .before .before .before .before .before .before .before .before .pre .0, fresh-long (c .before .before .before .before .before .before .before), c .before .before .before .before .before .before .before .before .pre .1), (sizes (c .before .before .before .before .before), (sym (front (c .before .before .before .before .before)) ∙ not-false _ (c .before .before .before .before .if1 .left))))
+values-ok-requires c κs =
+    let at-if1 = c .before .before .before .before in
+    let at-same-front = at-if1 .before in
+    let at-values-base-arg = at-same-front .before .before in
+    let at-start = at-values-base-arg .before in (
+      (at-start .pre .0, fresh-long at-values-base-arg, at-start .pre .1),
+      (sizes at-same-front, (sym (front at-same-front) ∙ not-false _ (at-if1 .if1 .left))),
+    )
 
 returns-3 : tie.Need-returns-3
-returns-3 c = not-slots (c .before .before .before .before .before .before .before .before .before .before .args .fresh .now) (c .before .before .before .before .before .before .before .before .before .before .args .row) (c .before .before .before .before .before .before .before .before .before .before .args .all .now) (fresh-long (c .before .before .before .before .before .before .before .before .before)) (c .before .before .before .before .before .before .before .before .before .before .pre .1) (row-long (c .before .before .before .before .before .before .before .before .before .before)) (c .before .before .before .before .before .before .before .before .before .before .pre .0) (sizes (c .before .before .before .before .before .before .before)) _ (values (c .before .before .before .before .before .before .before .before .before .before .args .fresh .now) (c .before .before .before .before .before .before .before .before .before .before .args .row) (c .before .before .before .before .before .before .before .before .before .before .args .all .now) (fresh-long (c .before .before .before .before .before .before .before .before .before)) (c .before .before .before .before .before .before .before .before .before .before .pre .1) (row-long (c .before .before .before .before .before .before .before .before .before .before)) (c .before .before .before .before .before .before .before .before .before .before .pre .0) (sizes (c .before .before .before .before .before .before .before))) (sym (c .before .values-ok .ensures) ∙ not-true _ (c .if3 .taken))
+returns-3 c =
+    let at-same-front = c .before .before .before .before .before .before .before in
+    let at-values-base-arg = at-same-front .before .before in
+    let at-start = at-values-base-arg .before in
+    not-slots (at-start .args .fresh .now) (rowOf (now (at-start .args .row))) (at-start .args .all .now) (fresh-long at-values-base-arg)
+    (at-start .pre .1) (row-long at-start) (at-start .pre .0) (sizes at-same-front) _
+    (values (at-start .args .fresh .now) (rowOf (now (at-start .args .row))) (at-start .args .all .now) (fresh-long at-values-base-arg)
+    (at-start .pre .1) (row-long at-start) (at-start .pre .0) (sizes at-same-front))
+    (sym (c .before .values-ok .ensures) ∙ not-true _ (c .if3 .taken))
 
 clears-ok-requires : tie.Need-clears-ok-requires
-clears-ok-requires c κs = (c .before .before .before .before .before .before .before .before .before .before .pre .0, omega (arith, c .before .before .before .before .before .before .before .before .values-base .ensures .0, c .before .before .before .before .values-end .ensures .0), omega (arith, fits _ (is-table _ (c .before .before .before .before .before .before .before .before .before .before .pre .1)), fresh-long (c .before .before .before .before .before .before .before .before .before), c .before .before .before .before .values-end .ensures .0))
+clears-ok-requires c κs =
+    let at-values-end = c .before .before .before .before in
+    let at-values-base = at-values-end .before .before .before .before in
+    let at-values-base-arg = at-values-base .before in
+    let at-start = at-values-base-arg .before in (
+      at-start .pre .0,
+      omega (arith, at-values-base .values-base .ensures .0, at-values-end .values-end .ensures .0),
+      omega (arith, fits _ (is-table _ (at-start .pre .1)), fresh-long at-values-base-arg, at-values-end .values-end .ensures .0),
+      at-start .pre .2,
+    )
 
 returns-4 : tie.Need-returns-4
-returns-4 c = c .clears-ok .ensures ∙ rw (c .before .before .before .before .before .before .before .before .before .values-base .ensures .0, c .before .before .before .before .before .values-end .ensures .0) (by-clears (c .before .before .before .before .before .before .before .before .before .before .before .args .fresh .now) (c .before .before .before .before .before .before .before .before .before .before .before .args .row) (c .before .before .before .before .before .before .before .before .before .before .before .args .all .now) (fresh-long (c .before .before .before .before .before .before .before .before .before .before)) (c .before .before .before .before .before .before .before .before .before .before .before .pre .1) (row-long (c .before .before .before .before .before .before .before .before .before .before .before)) (c .before .before .before .before .before .before .before .before .before .before .before .pre .0) (sizes (c .before .before .before .before .before .before .before .before)) (sym (front (c .before .before .before .before .before .before .before .before)) ∙ not-false _ (c .before .before .before .before .before .before .before .if1 .left)) (sym (tail (c .before .before .before .before)) ∙ not-false _ (c .before .before .before .if2 .left)) (sym (c .before .before .values-ok .ensures) ∙ not-false _ (c .before .if3 .left)))
+returns-4 c =
+    let at-if2 = c .before .before .before in
+    let at-zero-from = at-if2 .before in
+    let at-values-end = at-zero-from .before in
+    let at-if1 = at-values-end .before .before in
+    let at-same-front = at-if1 .before in
+    let at-values-base = at-same-front .before in
+    let at-values-base-arg = at-values-base .before in
+    let at-start = at-values-base-arg .before in
+    c .clears-ok .ensures ∙ rw (at-values-base .values-base .ensures .0, at-values-end .values-end .ensures .0)
+    (by-clears (at-start .args .fresh .now) (rowOf (now (at-start .args .row))) (at-start .args .all .now) (fresh-long at-values-base-arg)
+    (at-start .pre .1) (row-long at-start) (at-start .pre .0) (sizes at-same-front)
+    (sym (front at-same-front) ∙ not-false _ (at-if1 .if1 .left)) (sym (tail at-zero-from) ∙ not-false _ (at-if2 .if2 .left))
+    (sym (c .before .before .values-ok .ensures) ∙ not-false _ (c .before .if3 .left)))
 
 pub slots-ok-spec : {M : Type 1} → statement M
 slots-ok-spec =

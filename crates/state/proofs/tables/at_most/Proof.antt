@@ -31,7 +31,12 @@ number-requires : tie.Need-number-requires Inv-loop μ-loop
 number-requires c κs = omega arith
 
 returns : tie.Need-returns Inv-loop μ-loop
-returns c = bad-table (λ t. leb (word t (c .before .before .before .before .before .before .args .at)) (c .before .before .before .before .before .before .args .n)) (c .before .before .before .before .before .before .args .tables .now) _ _ (c .before .before .before .before .before .loop .inv .1) (omega arith) (lt-leb (word (getD (c .before .before .before .before .before .before .args .tables .now) (c .before .before .before .before .before .loop .k) []) (c .before .before .before .before .before .before .args .at)) _ (omega (arith, c .before .number .ensures .0)))
+returns c =
+    let at-loop = c .before .before .before .before .before in
+    let at-start = at-loop .before in
+    bad-table (λ t. leb (word t (at-start .args .at)) (at-start .args .n)) (at-start .args .tables .now) _ _ (at-loop .loop .inv .1)
+    (omega arith) (lt-leb (word (getD (at-start .args .tables .now) (at-loop .loop .k) []) (at-start .args .at)) _
+    (omega (arith, c .before .number .ensures .0)))
 
 add-k : tie.Need-add-k Inv-loop μ-loop
 add-k c = omega arith
@@ -40,10 +45,21 @@ loop-less : tie.Need-loop-less Inv-loop μ-loop
 loop-less c = omega arith
 
 loop-again : tie.Need-loop-again Inv-loop μ-loop
-loop-again c = (omega arith, next-table (λ t. leb (word t (c .before .before .before .before .before .before .args .at)) (c .before .before .before .before .before .before .args .n)) (c .before .before .before .before .before .before .args .tables .now) _ _ (c .before .before .before .before .before .loop .inv .1) (omega arith) (le-leb (word (getD (c .before .before .before .before .before .before .args .tables .now) (c .before .before .before .before .before .loop .k) []) (c .before .before .before .before .before .before .args .at)) _ (omega (arith, c .before .number .ensures .0))))
+loop-again c =
+    let at-loop = c .before .before .before .before .before in
+    let at-start = at-loop .before in (
+      omega arith,
+      next-table (λ t. leb (word t (at-start .args .at)) (at-start .args .n)) (at-start .args .tables .now) _ _ (at-loop .loop .inv .1)
+          (omega arith) (le-leb (word (getD (at-start .args .tables .now) (at-loop .loop .k) []) (at-start .args .at)) _
+          (omega (arith, c .before .number .ensures .0))),
+    )
 
 returns-2 : tie.Need-returns-2 Inv-loop μ-loop
-returns-2 c = last-table (λ t. leb (word t (c .before .before .args .at)) (c .before .before .args .n)) (c .before .before .args .tables .now) (c .before .loop .k) _ (c .before .loop .inv .1) (omega arith)
+returns-2 c =
+    let at-loop = c .before in
+    let at-start = at-loop .before in
+    last-table (λ t. leb (word t (at-start .args .at)) (at-start .args .n)) (at-start .args .tables .now) (at-loop .loop .k) _
+    (at-loop .loop .inv .1) (omega arith)
 
 pub at-most-spec : {M : Type 1} → statement M
 at-most-spec =

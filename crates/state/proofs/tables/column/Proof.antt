@@ -1,4 +1,5 @@
 -- `state::tables::column` meets its contract. Assumes nothing.
+use Rattle.wire.specs.Size.{tableBytes}
 use Rattle.state.proofs.Columns.{folded, eight-by}
 use Rattle.state.specs.Tables.{sized}
 use lib.Dec.{eqb}
@@ -59,7 +60,37 @@ differ-requires-8 c κs = search needs
 
 returns : tie.Need-returns
 unfolding sized
-returns c = (folded (λ t. eqb (getD t (c .before .before .before .before .before .before .before .before .before .before .before .before .before .before .before .before .before .before .before .before .before .before .before .before .args .j) 0) (c .before .before .before .before .before .before .before .before .before .before .before .before .before .before .before .before .before .before .before .before .before .before .before .before .args .f)) (c .before .before .before .before .before .before .before .before .before .before .before .before .before .before .before .before .before .before .before .before .before .before .before .before .args .tables .now) (c .before .before .before .before .before .before .before .before .before .before .before .before .before .before .before .before .before .before .before .before .before .before .before .before .pre .0) (c .before .before .before .before .before .before .before .before .before .before .before .before .before .before .before .before .before .before .before .before .before .differ .result) (c .before .before .before .before .before .before .before .before .before .before .before .before .before .before .before .before .before .before .differ2 .result) (c .before .before .before .before .before .before .before .before .before .before .before .before .before .before .before .differ3 .result) (c .before .before .before .before .before .before .before .before .before .before .before .before .differ4 .result) (c .before .before .before .before .before .before .before .before .before .differ5 .result) (c .before .before .before .before .before .before .differ6 .result) (c .before .before .before .differ7 .result) (c .differ8 .result) (c .before .before .before .before .before .before .before .before .before .before .before .before .before .before .before .before .before .before .before .before .before .differ .ensures) (c .before .before .before .before .before .before .before .before .before .before .before .before .before .before .before .before .before .before .differ2 .ensures) (c .before .before .before .before .before .before .before .before .before .before .before .before .before .before .before .differ3 .ensures) (c .before .before .before .before .before .before .before .before .before .before .before .before .differ4 .ensures) (c .before .before .before .before .before .before .before .before .before .differ5 .ensures) (c .before .before .before .before .before .before .differ6 .ensures) (c .before .before .before .differ7 .ensures) (c .differ8 .ensures), eight-by sized (c .before .before .before .before .before .before .before .before .before .before .before .before .before .before .before .before .before .before .before .before .before .before .before .before .args .tables .now) (c .before .before .before .before .before .before .before .before .before .before .before .before .before .before .before .before .before .before .before .before .before .before .before .before .pre .0) (eq-eqb (length (getD (c .before .before .before .before .before .before .before .before .before .before .before .before .before .before .before .before .before .before .before .before .before .before .before .before .args .tables .now) 0 [])) 640 (search (c .before .before .before .before .before .before .before .before .before .before .before .before .before .before .before .before .before .before .before .before .before .before .differ-arg2 .given))) (eq-eqb (length (getD (c .before .before .before .before .before .before .before .before .before .before .before .before .before .before .before .before .before .before .before .before .before .before .before .before .args .tables .now) 1 [])) 640 (search (c .before .before .before .before .before .before .before .before .before .before .before .before .before .before .before .before .before .before .before .differ-arg4 .given))) (eq-eqb (length (getD (c .before .before .before .before .before .before .before .before .before .before .before .before .before .before .before .before .before .before .before .before .before .before .before .before .args .tables .now) 2 [])) 640 (search (c .before .before .before .before .before .before .before .before .before .before .before .before .before .before .before .before .differ-arg6 .given))) (eq-eqb (length (getD (c .before .before .before .before .before .before .before .before .before .before .before .before .before .before .before .before .before .before .before .before .before .before .before .before .args .tables .now) 3 [])) 640 (search (c .before .before .before .before .before .before .before .before .before .before .before .before .before .differ-arg8 .given))) (eq-eqb (length (getD (c .before .before .before .before .before .before .before .before .before .before .before .before .before .before .before .before .before .before .before .before .before .before .before .before .args .tables .now) 4 [])) 640 (search (c .before .before .before .before .before .before .before .before .before .before .differ-arg10 .given))) (eq-eqb (length (getD (c .before .before .before .before .before .before .before .before .before .before .before .before .before .before .before .before .before .before .before .before .before .before .before .before .args .tables .now) 5 [])) 640 (search (c .before .before .before .before .before .before .before .differ-arg12 .given))) (eq-eqb (length (getD (c .before .before .before .before .before .before .before .before .before .before .before .before .before .before .before .before .before .before .before .before .before .before .before .before .args .tables .now) 6 [])) 640 (search (c .before .before .before .before .differ-arg14 .given))) (eq-eqb (length (getD (c .before .before .before .before .before .before .before .before .before .before .before .before .before .before .before .before .before .before .before .before .before .before .before .before .args .tables .now) 7 [])) 640 (search (c .before .differ-arg16 .given))))
+returns c =
+    let at-differ7 = c .before .before .before in
+    let at-differ-arg14 = at-differ7 .before in
+    let at-differ6 = at-differ-arg14 .before .before in
+    let at-differ-arg12 = at-differ6 .before in
+    let at-differ5 = at-differ-arg12 .before .before in
+    let at-differ-arg10 = at-differ5 .before in
+    let at-differ4 = at-differ-arg10 .before .before in
+    let at-differ-arg8 = at-differ4 .before in
+    let at-differ3 = at-differ-arg8 .before .before in
+    let at-differ-arg6 = at-differ3 .before in
+    let at-differ2 = at-differ-arg6 .before .before in
+    let at-differ-arg4 = at-differ2 .before in
+    let at-differ = at-differ-arg4 .before .before in
+    let at-differ-arg2 = at-differ .before in
+    let at-start = at-differ-arg2 .before .before in (
+      folded (λ t. eqb (getD t (at-start .args .j) 0) (at-start .args .f)) (at-start .args .tables .now) (at-start .pre .0)
+          (at-differ .differ .result) (at-differ2 .differ2 .result) (at-differ3 .differ3 .result) (at-differ4 .differ4 .result)
+          (at-differ5 .differ5 .result) (at-differ6 .differ6 .result) (at-differ7 .differ7 .result) (c .differ8 .result)
+          (at-differ .differ .ensures) (at-differ2 .differ2 .ensures) (at-differ3 .differ3 .ensures) (at-differ4 .differ4 .ensures)
+          (at-differ5 .differ5 .ensures) (at-differ6 .differ6 .ensures) (at-differ7 .differ7 .ensures) (c .differ8 .ensures),
+      eight-by sized (at-start .args .tables .now) (at-start .pre .0)
+          (eq-eqb (length (getD (at-start .args .tables .now) 0 [])) tableBytes (search (at-differ-arg2 .differ-arg2 .given)))
+          (eq-eqb (length (getD (at-start .args .tables .now) 1 [])) tableBytes (search (at-differ-arg4 .differ-arg4 .given)))
+          (eq-eqb (length (getD (at-start .args .tables .now) 2 [])) tableBytes (search (at-differ-arg6 .differ-arg6 .given)))
+          (eq-eqb (length (getD (at-start .args .tables .now) 3 [])) tableBytes (search (at-differ-arg8 .differ-arg8 .given)))
+          (eq-eqb (length (getD (at-start .args .tables .now) 4 [])) tableBytes (search (at-differ-arg10 .differ-arg10 .given)))
+          (eq-eqb (length (getD (at-start .args .tables .now) 5 [])) tableBytes (search (at-differ-arg12 .differ-arg12 .given)))
+          (eq-eqb (length (getD (at-start .args .tables .now) 6 [])) tableBytes (search (at-differ-arg14 .differ-arg14 .given)))
+          (eq-eqb (length (getD (at-start .args .tables .now) 7 [])) tableBytes (search (c .before .differ-arg16 .given))),
+    )
 
 pub column-spec : {M : Type 1} → statement M
 column-spec =

@@ -10,7 +10,9 @@ shared-slice-read-result : tie.Need-shared-slice-read-result
 shared-slice-read-result c = search needs
 
 returns : tie.Need-returns
-returns c = differs (getD (c .before .args .t .now) (c .before .args .j) 0) (c .before .args .f) _ refl
+returns c =
+    let at-start = c .before in
+    differs (getD (at-start .args .t .now) (at-start .args .j) 0) (at-start .args .f) _ refl
 
 pub differ-spec : {M : Type 1} → statement M
 differ-spec = tie.close (tie.spec shared-slice-read-result returns)

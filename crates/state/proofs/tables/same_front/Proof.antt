@@ -20,7 +20,11 @@ same-part-requires-2 : tie.Need-same-part-requires-2
 same-part-requires-2 c κs = search needs
 
 returns-2 : tie.Need-returns-2
-returns-2 c = (bad-part _ _ _ _ _ _ (omega arith) (omega arith) (sym (c .before .same-part2 .ensures .0) ∙ not-true _ (c .if2 .taken)), λ h. c .before .same-part2 .ensures .1 (omega arith))
+returns-2 c =
+    let at-same-part2 = c .before in (
+      bad-part _ _ _ _ _ _ (omega arith) (omega arith) (sym (at-same-part2 .same-part2 .ensures .0) ∙ not-true _ (c .if2 .taken)),
+      λ h. at-same-part2 .same-part2 .ensures .1 (omega arith),
+    )
 
 sub-same-part : tie.Need-sub-same-part
 sub-same-part c = search needs
@@ -29,7 +33,15 @@ same-part-requires-3 : tie.Need-same-part-requires-3
 same-part-requires-3 c κs = search needs
 
 returns-3 : tie.Need-returns-3
-returns-3 c = (c .same-part3 .ensures .0 ∙ by-part _ _ 0 _ (c .before .before .before .before .args .n - 16) _ _ 0 (λ x a b. ⊎-elim (λ (l : x < c .before .before .before .before .args .n - 16). inr (omega arith, omega arith)) (λ (l : c .before .before .before .before .args .n - 16 ≤ x). inl (l, omega arith)) (split x (c .before .before .before .before .args .n - 16))) (omega arith) (omega arith) (sym (c .before .before .same-part2 .ensures .0) ∙ not-false _ (c .before .if2 .left)), λ h. c .before .before .same-part2 .ensures .1 (omega arith))
+returns-3 c =
+    let at-same-part2 = c .before .before in
+    let at-start = at-same-part2 .before .before in (
+      c .same-part3 .ensures .0 ∙ by-part _ _ 0 _ (at-start .args .n - 16) _ _ 0
+          (λ x a b. ⊎-elim (λ (l : x < at-start .args .n - 16). inr (omega arith, omega arith))
+          (λ (l : at-start .args .n - 16 ≤ x). inl (l, omega arith)) (split x (at-start .args .n - 16))) (omega arith) (omega arith)
+          (sym (at-same-part2 .same-part2 .ensures .0) ∙ not-false _ (c .before .if2 .left)),
+      λ h. at-same-part2 .same-part2 .ensures .1 (omega arith),
+    )
 
 pub same-front-spec : {M : Type 1} → statement M
 same-front-spec =

@@ -11,7 +11,9 @@ use Rattle.state.proofs.tables.same_part.Statement.{statement}
 use Rattle.state.proofs.tables.same_part.Tie as tie
 
 abbrev Inv-loop : tie.InvT-loop
-Inv-loop tables fresh from to acc₀ j₀ acc j = (from ≤ j) × (j ≤ to) × (both (eqb acc 0) (every (agrees fresh (to - j) j) tables) ≡ every (agrees fresh (to - from) from) tables) × (from < j → every sized tables ≡ true)
+Inv-loop tables fresh from to acc₀ j₀ acc j =
+    (from ≤ j) × (j ≤ to) × (both (eqb acc 0) (every (agrees fresh (to - j) j) tables) ≡ every (agrees fresh (to - from) from) tables)
+    × (from < j → every sized tables ≡ true)
 
 abbrev μ-loop : tie.MeasureT-loop
 μ-loop tables fresh from to acc₀ j₀ acc j = to - j
@@ -33,10 +35,24 @@ loop-less : tie.Need-loop-less Inv-loop μ-loop
 loop-less c = omega arith
 
 loop-again : tie.Need-loop-again Inv-loop μ-loop
-loop-again c = (omega arith, omega arith, column-turn (c .before .before .before .before .args .fresh .now) (c .before .before .before .before .args .tables .now) (c .before .before .before .loop .acc) _ _ _ _ (c .before .before .before .loop .inv .2) (c .before .before .loop-test .taken) (c .column .ensures .0), λ h. c .column .ensures .1)
+loop-again c =
+    let at-loop = c .before .before .before in
+    let at-start = at-loop .before in (
+      omega arith,
+      omega arith,
+      column-turn (at-start .args .fresh .now) (at-start .args .tables .now) (at-loop .loop .acc) _ _ _ _ (at-loop .loop .inv .2)
+          (c .before .before .loop-test .taken) (c .column .ensures .0),
+      λ h. c .column .ensures .1,
+    )
 
 returns : tie.Need-returns Inv-loop μ-loop
-returns c = (column-end (c .before .before .args .fresh .now) (c .before .before .args .tables .now) (c .before .loop .acc) 0 _ _ _ (c .before .loop .inv .2) (c .loop-test .left), λ h. c .before .loop .inv .3 (omega arith))
+returns c =
+    let at-loop = c .before in
+    let at-start = at-loop .before in (
+      column-end (at-start .args .fresh .now) (at-start .args .tables .now) (at-loop .loop .acc) 0 _ _ _ (at-loop .loop .inv .2)
+          (c .loop-test .left),
+      λ h. at-loop .loop .inv .3 (omega arith),
+    )
 
 pub same-part-spec : {M : Type 1} → statement M
 same-part-spec =

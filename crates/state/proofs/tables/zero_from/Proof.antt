@@ -36,7 +36,12 @@ zero-part-requires-3 : tie.Need-zero-part-requires-3
 zero-part-requires-3 c κs = search needs
 
 returns-3 : tie.Need-returns-3
-returns-3 c = c .zero-part3 .ensures ∙ by-part [] _ (c .before .before .before .before .args .from) _ _ _ _ _ (λ x a b. ⊎-elim (λ (l : x < c .before .before .before .before .args .from + 16). inl (a, omega arith)) (λ (l : c .before .before .before .before .args .from + 16 ≤ x). inr (omega arith, omega arith)) (split x (c .before .before .before .before .args .from + 16))) (omega arith) (omega arith) (sym (c .before .before .zero-part2 .ensures) ∙ not-false _ (c .before .if2 .left))
+returns-3 c =
+    let at-start = c .before .before .before .before in
+    c .zero-part3 .ensures ∙ by-part [] _ (at-start .args .from) _ _ _ _ _
+    (λ x a b. ⊎-elim (λ (l : x < at-start .args .from + 16). inl (a, omega arith))
+    (λ (l : at-start .args .from + 16 ≤ x). inr (omega arith, omega arith)) (split x (at-start .args .from + 16))) (omega arith)
+    (omega arith) (sym (c .before .before .zero-part2 .ensures) ∙ not-false _ (c .before .if2 .left))
 
 pub zero-from-spec : {M : Type 1} → statement M
 zero-from-spec =

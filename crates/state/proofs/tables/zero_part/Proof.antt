@@ -11,7 +11,8 @@ use Rattle.state.proofs.tables.zero_part.Statement.{statement}
 use Rattle.state.proofs.tables.zero_part.Tie as tie
 
 abbrev Inv-loop : tie.InvT-loop
-Inv-loop tables from to acc₀ j₀ acc j = (from ≤ j) × (j ≤ to) × (both (eqb acc 0) (every (agrees [] (to - j) j) tables) ≡ every (agrees [] (to - from) from) tables)
+Inv-loop tables from to acc₀ j₀ acc j =
+    (from ≤ j) × (j ≤ to) × (both (eqb acc 0) (every (agrees [] (to - j) j) tables) ≡ every (agrees [] (to - from) from) tables)
 
 abbrev μ-loop : tie.MeasureT-loop
 μ-loop tables from to acc₀ j₀ acc j = to - j
@@ -30,10 +31,19 @@ loop-less : tie.Need-loop-less Inv-loop μ-loop
 loop-less c = omega arith
 
 loop-again : tie.Need-loop-again Inv-loop μ-loop
-loop-again c = (omega arith, omega arith, column-turn [] (c .before .before .before .args .tables .now) (c .before .before .loop .acc) _ _ _ _ (c .before .before .loop .inv .2) (c .before .loop-test .taken) (c .column .ensures .0))
+loop-again c =
+    let at-loop = c .before .before in
+    let at-start = at-loop .before in (
+      omega arith,
+      omega arith,
+      column-turn [] (at-start .args .tables .now) (at-loop .loop .acc) _ _ _ _ (at-loop .loop .inv .2) (c .before .loop-test .taken)
+          (c .column .ensures .0),
+    )
 
 returns : tie.Need-returns Inv-loop μ-loop
-returns c = column-end [] (c .before .before .args .tables .now) (c .before .loop .acc) 0 _ _ _ (c .before .loop .inv .2) (c .loop-test .left)
+returns c =
+    let at-loop = c .before in
+    column-end [] (c .before .before .args .tables .now) (at-loop .loop .acc) 0 _ _ _ (at-loop .loop .inv .2) (c .loop-test .left)
 
 pub zero-part-spec : {M : Type 1} → statement M
 zero-part-spec =

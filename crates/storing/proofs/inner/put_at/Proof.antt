@@ -16,7 +16,9 @@ decode-requires : tie.Need-decode-requires
 decode-requires c κs = search needs
 
 put-own-requires : tie.Need-put-own-requires
-put-own-requires c κs = c .before .before .before .before .before .before .pre .1 .own
+put-own-requires c κs =
+    let at-start = c .before .before .before .before .before .before in
+    at-start .pre .1 .own
 
 same-length : tie.Need-same-length
 same-length c = search needs
@@ -26,12 +28,22 @@ same-length-2 c = search needs
 
 returns : tie.Need-returns
 returns c =
-    let a = c .before .before .before .before .before .before .before .before .args in
+    let at-if1 = c .before .before .before in
+    let at-decode = at-if1 .before in
+    let at-start = at-decode .before .before .before .before in
+    let a = at-start .args in
     let p = c .before .put-own .ensures in
-    own-put (a .list .now) (a .store .now) (a .tables .now) _ _ _ (a .d .now) _ (c .before .before .before .before .decode .ensures) (c .before .before .before .if1 .taken) _ _ (p .0) (p .1)
+    own-put (a .list .now) (a .store .now) (a .tables .now) _ _ _ (a .d .now) _ (at-decode .decode .ensures) (at-if1 .if1 .taken) _ _ (p .0)
+    (p .1)
 
 put-shared-requires : tie.Need-put-shared-requires
-put-shared-requires c κs = (c .before .before .before .before .before .before .before .pre .0, c .before .before .before .before .before .before .before .pre .1 .right, ap (λ (a : Attribute). a .client) (sym (c .before .before .before .decode .ensures)) ∙ c .before .before .if1 .left)
+put-shared-requires c κs =
+    let at-decode = c .before .before .before in
+    let at-start = at-decode .before .before .before .before in (
+      at-start .pre .0,
+      at-start .pre .1 .right,
+      ap (λ (a : Attribute). a .client) (sym (at-decode .decode .ensures)) ∙ c .before .before .if1 .left,
+    )
 
 same-length-3 : tie.Need-same-length-3
 same-length-3 c = search needs
@@ -41,10 +53,14 @@ same-length-4 c = search needs
 
 returns-2 : tie.Need-returns-2
 returns-2 c =
-    let a = c .before .before .before .before .before .before .before .before .before .before .before .args in
-    let p = c .before .before .before .before .before .before .before .before .before .before .before .pre in
-    shared-put (a .list .now) (a .store .now) (a .tables .now) _ _ _ (a .d .now) _ (c .before .before .before .before .before .before .before .decode .ensures) (p .0) (p .1 .right) (c .before .before .before .before .before .before .if1 .left) _ _ _
-    (c .before .before .before .put-shared .ensures)
+    let at-put-shared = c .before .before .before in
+    let at-if1 = at-put-shared .before .before .before in
+    let at-decode = at-if1 .before in
+    let at-start = at-decode .before .before .before .before in
+    let a = at-start .args in
+    let p = at-start .pre in
+    shared-put (a .list .now) (a .store .now) (a .tables .now) _ _ _ (a .d .now) _ (at-decode .decode .ensures) (p .0) (p .1 .right)
+    (at-if1 .if1 .left) _ _ _ (at-put-shared .put-shared .ensures)
 
 pub put-at-spec : {M : Type 1} → statement M
 put-at-spec =

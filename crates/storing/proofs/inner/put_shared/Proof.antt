@@ -10,13 +10,22 @@ use denote.Ref.{now}
 use Rattle.storing.proofs.inner.put_shared.Statement.{statement}
 use Rattle.storing.proofs.inner.put_shared.Tie as tie
 
-granted : (c : tie.After-enum-told) → writeRule (c .before .before .before .decode .result .len) (c .before .before .before .decode .result .cap) (c .before .before .before .before .before .before .before .args .offset) (length (now (c .before .before .before .before .before .before .before .args .d))) ≡ Granted
+granted : (c : tie.After-enum-told) →
+    let at-decode = c .before .before .before in
+    let at-start = at-decode .before .before .before .before in
+    writeRule (at-decode .decode .result .len) (at-decode .decode .result .cap) (at-start .args .offset) (length (now (at-start .args .d)))
+    ≡ Granted
 granted c = sym (c .before .before .rule .ensures) ∙ c .enum-told .given .1
 
-space : (c : tie.After-enum-told) → Room (c .before .before .before .decode .result) (length (now (c .before .before .before .before .before .before .before .args .store))) (c .before .before .before .before .before .before .before .args .offset) (length (now (c .before .before .before .before .before .before .before .args .d)))
+space : (c : tie.After-enum-told) →
+    let at-decode = c .before .before .before in
+    let at-start = at-decode .before .before .before .before in
+    Room (at-decode .decode .result) (length (now (at-start .args .store))) (at-start .args .offset) (length (now (at-start .args .d)))
 space c =
-    let p = c .before .before .before .before .before .before .before .pre in
-    room _ _ _ (p .0) (p .1) (p .2) _ (c .before .before .before .decode .ensures) _ _ (granted c)
+    let at-decode = c .before .before .before in
+    let at-start = at-decode .before .before .before .before in
+    let p = at-start .pre in
+    room _ _ _ (p .0) (p .1) (p .2) _ (at-decode .decode .ensures) _ _ (granted c)
 
 mul-decode : tie.Need-mul-decode
 mul-decode c = search needs
@@ -38,8 +47,12 @@ same-length c = search needs
 
 returns : tie.Need-returns
 returns c =
-    let a = c .before .before .before .before .before .before .before .before .args in
-    refused (a .list .now) (a .store .now) _ _ (a .d .now) _ (c .before .before .before .before .decode .ensures) _ (sym (c .before .before .before .rule .ensures) ∙ c .before .code .given .1)
+    let at-rule = c .before .before .before in
+    let at-decode = at-rule .before in
+    let at-start = at-decode .before .before .before .before in
+    let a = at-start .args in
+    refused (a .list .now) (a .store .now) _ _ (a .d .now) _ (at-decode .decode .ensures) _
+    (sym (at-rule .rule .ensures) ∙ c .before .code .given .1)
 
 enum-told : tie.Need-enum-told
 enum-told c = search needs
@@ -54,10 +67,16 @@ copy-requires : tie.Need-copy-requires
 copy-requires c κs = let r = space (c .before .before) in omega (arith, r .value, r .cap, r .inside)
 
 add-set-length : tie.Need-add-set-length
-add-set-length c = let r = space (c .before .before .before .before .before .before .before) in omega (arith, r .value, r .cap)
+add-set-length c =
+    let at-told = c .before .before .before .before .before .before .before in
+    let r = space at-told in
+    omega (arith, r .value, r .cap)
 
 cast-set-length : tie.Need-cast-set-length
-cast-set-length c = let r = space (c .before .before .before .before .before .before .before) in omega (arith, r .value, r .cap)
+cast-set-length c =
+    let at-told = c .before .before .before .before .before .before .before in
+    let r = space at-told in
+    omega (arith, r .value, r .cap)
 
 set-length-requires : tie.Need-set-length-requires
 set-length-requires c κs = search needs
@@ -70,9 +89,14 @@ same-length-3 c = search needs
 
 returns-2 : tie.Need-returns-2
 returns-2 c =
-    let a = c .before .before .before .before .before .before .before .before .before .before .before .before .before .before .before .before .args in
-    with-length (a .list .now) (a .store .now) _ _ (a .d .now) _ (c .before .before .before .before .before .before .before .before .before .before .before .before .decode .ensures) (granted (c .before .before .before .before .before .before .before .before .before)) _ (c .before .before .before .before .before .before .copy .ensures) _ (c .before .before .before .if1 .taken)
-    (c .before .set-length .ensures)
+    let at-if1 = c .before .before .before in
+    let at-copy = at-if1 .before .before .before in
+    let at-told = at-copy .before .before .before in
+    let at-decode = at-told .before .before .before in
+    let at-start = at-decode .before .before .before .before in
+    let a = at-start .args in
+    with-length (a .list .now) (a .store .now) _ _ (a .d .now) _ (at-decode .decode .ensures) (granted at-told) _ (at-copy .copy .ensures) _
+    (at-if1 .if1 .taken) (c .before .set-length .ensures)
 
 same-length-4 : tie.Need-same-length-4
 same-length-4 c = search needs
@@ -82,8 +106,13 @@ same-length-5 c = search needs
 
 returns-3 : tie.Need-returns-3
 returns-3 c =
-    let a = c .before .before .before .before .before .before .before .before .before .before .before .before .before .args in
-    as-it-is (a .list .now) (a .store .now) _ _ (a .d .now) _ (c .before .before .before .before .before .before .before .before .before .decode .ensures) (granted (c .before .before .before .before .before .before)) _ (c .before .before .before .copy .ensures) (c .if1 .left)
+    let at-copy = c .before .before .before in
+    let at-told = at-copy .before .before .before in
+    let at-decode = at-told .before .before .before in
+    let at-start = at-decode .before .before .before .before in
+    let a = at-start .args in
+    as-it-is (a .list .now) (a .store .now) _ _ (a .d .now) _ (at-decode .decode .ensures) (granted at-told) _ (at-copy .copy .ensures)
+    (c .if1 .left)
 
 pub put-shared-spec : {M : Type 1} → statement M
 put-shared-spec =

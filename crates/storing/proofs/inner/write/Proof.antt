@@ -17,17 +17,28 @@ use denote.Ref.{now}
 use Rattle.storing.proofs.inner.write.Statement.{statement}
 use Rattle.storing.proofs.inner.write.Tie as tie
 
-at : (c : tie.After-i) → placeOf (now (c .before .before .before .before .before .before .args .list)) (c .before .before .before .before .before .before .args .handle) ≡ At (c .i .given .0 .0)
+at : (c : tie.After-i) →
+    let at-start = c .before .before .before .before .before .before in
+    placeOf (now (at-start .args .list)) (at-start .args .handle) ≡ At (c .i .given .0 .0)
 at c = sym (c .before .before .find-listed .ensures) ∙ c .i .given .1
 
-inside : (c : tie.After-i) → c .i .given .0 .0 < length (now (c .before .before .before .before .before .before .args .list))
+inside : (c : tie.After-i) →
+    let at-start = c .before .before .before .before .before .before in
+    c .i .given .0 .0 < length (now (at-start .args .list))
 inside c = listed _ _ _ (at c)
 
-told : (c : tie.After-may-write) → mayWrite (attributeOf (getD (now (c .before .before .before .before .before .before .before .before .before .before .args .list)) (c .before .before .before .before .i .given .0 .0) [])) (c .before .before .before .before .before .before .before .before .before .before .args .link) ≡ c .may-write .result
-told c = ap (λ (a : Attribute). mayWrite a (c .before .before .before .before .before .before .before .before .before .before .args .link)) (sym (c .before .decode .ensures)) ∙ sym (c .may-write .ensures)
+told : (c : tie.After-may-write) →
+    let at-i = c .before .before .before .before in
+    let at-start = at-i .before .before .before .before .before .before in
+    mayWrite (attributeOf (getD (now (at-start .args .list)) (at-i .i .given .0 .0) [])) (at-start .args .link) ≡ c .may-write .result
+told c =
+    let at-start = c .before .before .before .before .before .before .before .before .before .before in
+    ap (λ (a : Attribute). mayWrite a (at-start .args .link)) (sym (c .before .decode .ensures)) ∙ sym (c .may-write .ensures)
 
 find-listed-requires : tie.Need-find-listed-requires
-find-listed-requires c κs = ascending _ _ (c .before .before .before .pre .right)
+find-listed-requires c κs =
+    let at-start = c .before .before .before in
+    ascending _ _ (at-start .pre .right)
 
 enum-known-i : tie.Need-enum-known-i
 enum-known-i c = search needs
@@ -40,8 +51,10 @@ same-length c = search needs
 
 returns : tie.Need-returns
 returns c =
-    let a = c .before .before .before .before .before .before .args in
-    not-listed (a .link) (a .list .now) (a .store .now) (a .tables .now) _ _ _ (a .d .now) (sym (c .before .before .find-listed .ensures) ∙ c .enum-told .given .1)
+    let at-start = c .before .before .before .before .before .before in
+    let a = at-start .args in
+    not-listed (a .link) (a .list .now) (a .store .now) (a .tables .now) _ _ _ (a .d .now)
+    (sym (c .before .before .find-listed .ensures) ∙ c .enum-told .given .1)
 
 mul-decode : tie.Need-mul-decode
 mul-decode c = omega (arith, inside (c .before))
@@ -63,14 +76,21 @@ same-length-2 c = search needs
 
 returns-2 : tie.Need-returns-2
 returns-2 c =
-    let a = c .before .before .before .before .before .before .before .before .before .before .before .before .before .args in
-    not-met (a .link) (a .list .now) (a .store .now) (a .tables .now) _ _ _ (a .d .now) _ (at (c .before .before .before .before .before .before .before)) _ (told (c .before .before .before) ∙ c .before .code .given .1)
+    let at-may-write = c .before .before .before in
+    let at-i = at-may-write .before .before .before .before in
+    let at-start = at-i .before .before .before .before .before .before in
+    let a = at-start .args in
+    not-met (a .link) (a .list .now) (a .store .now) (a .tables .now) _ _ _ (a .d .now) _ (at at-i) _
+    (told at-may-write ∙ c .before .code .given .1)
 
 enum-told-2 : tie.Need-enum-told-2
 enum-told-2 c = search needs
 
 put-at-requires : tie.Need-put-at-requires
-put-at-requires c κs = (inside (c .before .before .before .before .before .before .before .before .before), c .before .before .before .before .before .before .before .before .before .before .before .before .before .before .before .pre)
+put-at-requires c κs =
+    let at-i = c .before .before .before .before .before .before .before .before .before in
+    let at-start = at-i .before .before .before .before .before .before in
+    (inside at-i, at-start .pre)
 
 same-length-3 : tie.Need-same-length-3
 same-length-3 c = search needs
@@ -83,9 +103,14 @@ same-length-5 c = search needs
 
 returns-3 : tie.Need-returns-3
 returns-3 c =
-    let a = c .before .before .before .before .before .before .before .before .before .before .before .before .before .before .before .before .before .before .before .before .args in
-    met (a .link) (a .list .now) (a .store .now) (a .tables .now) _ _ _ (a .d .now) _ (at (c .before .before .before .before .before .before .before .before .before .before .before .before .before .before)) (told (c .before .before .before .before .before .before .before .before .before .before) ∙ c .before .before .before .before .before .before .before .before .enum-told2 .given .1) _ _ _ _
-    (c .before .before .before .before .put-at .ensures)
+    let at-put-at = c .before .before .before .before in
+    let at-told2 = at-put-at .before .before .before .before in
+    let at-may-write = at-told2 .before .before in
+    let at-i = at-may-write .before .before .before .before in
+    let at-start = at-i .before .before .before .before .before .before in
+    let a = at-start .args in
+    met (a .link) (a .list .now) (a .store .now) (a .tables .now) _ _ _ (a .d .now) _ (at at-i)
+    (told at-may-write ∙ at-told2 .enum-told2 .given .1) _ _ _ _ (at-put-at .put-at .ensures)
 
 pub write-spec : {M : Type 1} → statement M
 write-spec =

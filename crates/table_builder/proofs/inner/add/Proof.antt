@@ -55,15 +55,17 @@ same-length c = search needs
 
 returns : tie.Need-returns
 returns c =
-    entry-done _ _ _ _ _ _ _ _ _ _ _ _ _
-    (c .before .before .before .before .before .before .before .before .before .before .before .before .before .before .before .before .before .before .before .before .before .before .count .ensures .0)
-    (c .before .before .before .before .before .before .before .before .before .before .before .before .before .before .before .before .before .before .before .before .number .ensures .0)
-    (c .before .before .before .before .before .before .before .before .before .before .before .before .before .before .before .before .before .before .values-base .ensures .0)
-    (c .before .before .before .before .before .before .before .before .before .before .before .before .before .before .before .before .before .space .ensures .0)
-    (c .before .before .before .before .before .before .before .before .before .before .before .before .before .before .before .before .with-flag .ensures)
-    (c .before .before .before .before .before .before .before .before .before .before .before .before .before .before .set .ensures)
-    (c .before .before .before .before .before .before .before .before .before .before .set2 .ensures)
-    (c .before .before .before .before .before .before .set3 .ensures) (c .before .before .set4 .ensures)
+    let at-set3 = c .before .before .before .before .before .before in
+    let at-set2 = at-set3 .before .before .before .before in
+    let at-set = at-set2 .before .before .before .before in
+    let at-with-flag = at-set .before .before in
+    let at-space = at-with-flag .before in
+    let at-values-base = at-space .before in
+    let at-number = at-values-base .before .before in
+    let at-count = at-number .before .before in
+    entry-done _ _ _ _ _ _ _ _ _ _ _ _ _ (at-count .count .ensures .0) (at-number .number .ensures .0)
+    (at-values-base .values-base .ensures .0) (at-space .space .ensures .0) (at-with-flag .with-flag .ensures) (at-set .set .ensures)
+    (at-set2 .set2 .ensures) (at-set3 .set3 .ensures) (c .before .before .set4 .ensures)
 
 pub add-spec : {M : Type 1} → statement M
 add-spec =

@@ -14,7 +14,9 @@ use denote.Ref.{now}
 use Rattle.table_builder.proofs.inner.is_builder.Statement.{statement}
 use Rattle.table_builder.proofs.inner.is_builder.Tie as tie
 
-ok : (c : tie.Else1) → accepts (now (c .before .before .before .args .b)) ≡ true
+ok : (c : tie.Else1) →
+    let at-start = c .before .before .before in
+    accepts (now (at-start .args .b)) ≡ true
 ok c = sym (c .before .is-table .ensures) ∙ not-false _ (c .if1 .left)
 
 is-table-requires : tie.Need-is-table-requires
@@ -40,9 +42,11 @@ is-zero-requires c κs = search needs
 
 returns-2 : tie.Need-returns-2
 returns-2 c =
-    c .is-zero .ensures
-    ∙ ap zeros (tail (now (c .before .before .before .before .before .before .args .b)) (c .before .before .values-base .result))
-    ∙ rw (c .before .before .values-base .ensures .0) (by-zeros _ (ok (c .before .before .before)))
+    let at-values-base = c .before .before in
+    let at-if1 = at-values-base .before in
+    let at-start = at-if1 .before .before .before in
+    c .is-zero .ensures ∙ ap zeros (tail (now (at-start .args .b)) (at-values-base .values-base .result))
+    ∙ rw (at-values-base .values-base .ensures .0) (by-zeros _ (ok at-if1))
 
 pub is-builder-spec : {M : Type 1} → statement M
 is-builder-spec =

@@ -27,10 +27,15 @@ add-mid : tie.Need-add-mid Inv-loop μ-loop
 add-mid c = omega arith
 
 key-at-requires : tie.Need-key-at-requires Inv-loop μ-loop
-key-at-requires c κs = omega (arith, fits _ (c .before .before .before .before .pre))
+key-at-requires c κs =
+    let at-start = c .before .before .before .before in
+    omega (arith, fits _ (at-start .pre))
 
 returns : tie.Need-returns Inv-loop μ-loop
-returns c = found _ _ _ (c .before .before .before .before .before .before .before .before .pre) (omega arith) (omega arith)
+returns c =
+    let at-number = c .before .before .before .before .before .before in
+    let at-start = at-number .before .before in
+    found _ _ _ (at-start .pre) (omega arith) (omega arith)
 
 add-lo : tie.Need-add-lo Inv-loop μ-loop
 add-lo c = omega arith
@@ -39,16 +44,26 @@ loop-less : tie.Need-loop-less Inv-loop μ-loop
 loop-less c = omega arith
 
 loop-again : tie.Need-loop-again Inv-loop μ-loop
-loop-again c = (omega arith, (omega arith, (up _ _ _ (c .before .before .before .before .before .before .before .before .before .before .before .pre) (omega arith) (omega arith), c .before .before .before .before .before .before .before .before .loop .inv .1 .1 .1)))
+loop-again c =
+    let at-key-at = c .before .before .before .before .before .before in
+    let at-loop = at-key-at .before .before in
+    let at-start = at-loop .before .before .before in
+    (omega arith, (omega arith, (up _ _ _ (at-start .pre) (omega arith) (omega arith), at-loop .loop .inv .1 .1 .1)))
 
 loop-less-2 : tie.Need-loop-less-2 Inv-loop μ-loop
 loop-less-2 c = omega arith
 
 loop-again-2 : tie.Need-loop-again-2 Inv-loop μ-loop
-loop-again-2 c = (omega arith, (omega arith, (c .before .before .before .before .before .before .before .before .loop .inv .1 .1 .0, down _ _ _ (c .before .before .before .before .before .before .before .before .before .before .before .pre) (omega arith) (omega arith))))
+loop-again-2 c =
+    let at-key-at = c .before .before .before .before .before .before in
+    let at-loop = at-key-at .before .before in
+    let at-start = at-loop .before .before .before in
+    (omega arith, (omega arith, (at-loop .loop .inv .1 .1 .0, down _ _ _ (at-start .pre) (omega arith) (omega arith))))
 
 returns-2 : tie.Need-returns-2 Inv-loop μ-loop
-returns-2 c = missing _ _ _ _ (c .loop-test .left) (c .before .loop .inv .1 .1 .0) (c .before .loop .inv .1 .1 .1)
+returns-2 c =
+    let at-loop = c .before in
+    missing _ _ _ _ (c .loop-test .left) (at-loop .loop .inv .1 .1 .0) (at-loop .loop .inv .1 .1 .1)
 
 pub find-spec : {M : Type 1} → statement M
 find-spec =

@@ -41,14 +41,20 @@ returns-4 c = search needs
 least-requires : tie.Need-least-requires
 least-requires c κs = search needs
 
+row-bytes-requires : tie.Need-row-bytes-requires
+row-bytes-requires c κs = search needs
+
+slice-aggregate-get : tie.Need-slice-aggregate-get
+slice-aggregate-get c = search needs
+
 cast-get : tie.Need-cast-get
 cast-get c = search needs
 
 array-borrow-prefix-out : tie.Need-array-borrow-prefix-out
 array-borrow-prefix-out c = search needs
 
-slice-aggregate-get : tie.Need-slice-aggregate-get
-slice-aggregate-get c = simp length-take (omega arith)
+slice-aggregate-get-2 : tie.Need-slice-aggregate-get-2
+slice-aggregate-get-2 c = simp length-take (omega arith)
 
 get-requires : tie.Need-get-requires
 get-requires c κs = search needs
@@ -78,9 +84,11 @@ get-spec =
     is-closed-requires
     returns-4
     least-requires
+    row-bytes-requires
+    slice-aggregate-get
     cast-get
     array-borrow-prefix-out
-    slice-aggregate-get
+    slice-aggregate-get-2
     get-requires
     slice-aggregate-tell-value
     tell-value-requires

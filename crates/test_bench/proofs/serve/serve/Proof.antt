@@ -11,6 +11,12 @@ returns c = search needs
 least-requires : tie.Need-least-requires
 least-requires c κs = search needs
 
+row-bytes-requires : tie.Need-row-bytes-requires
+row-bytes-requires c κs = search needs
+
+slice-aggregate-process : tie.Need-slice-aggregate-process
+slice-aggregate-process c = search needs
+
 record-requires : tie.Need-record-requires
 record-requires c κs = search needs
 
@@ -23,8 +29,8 @@ index-1-process c = search needs
 array-borrow-prefix-out : tie.Need-array-borrow-prefix-out
 array-borrow-prefix-out c = search needs
 
-slice-aggregate-process : tie.Need-slice-aggregate-process
-slice-aggregate-process c = simp length-take (omega arith)
+slice-aggregate-process-2 : tie.Need-slice-aggregate-process-2
+slice-aggregate-process-2 c = simp length-take (omega arith)
 
 process-requires : tie.Need-process-requires
 process-requires c κs = search needs
@@ -62,11 +68,13 @@ serve-spec =
     (tie.spec
     returns
     least-requires
+    row-bytes-requires
     record-requires
+    slice-aggregate-process
     mul-process
     index-1-process
     array-borrow-prefix-out
-    slice-aggregate-process
+    slice-aggregate-process-2
     process-requires
     slice-aggregate-tell-value
     tell-value-requires

@@ -28,9 +28,12 @@ same-length c = search needs
 
 returns : tie.Need-returns
 returns c =
-    let a = c .before .before .before .before .before .before .before .args in
+    let at-append = c .before .before in
+    let at-start = at-append .before .before .before .before .before in
+    let a = at-start .args in
     let e : (a .from + a .n) - a .from ≡ a .n = omega arith in
-    wrote-as _ _ _ _ _ _ (wrote _ _ _ _ _ (simp (length-take, length-drop) (omega (arith, c .before .before .before .before .before .before .before .pre .0, c .before .before .before .before .before .before .before .pre .1))) (c .before .before .append .ensures .0) (c .before .before .append .ensures .1)) (rw e)
+    wrote-as _ _ _ _ _ _ (wrote _ _ _ _ _ (simp (length-take, length-drop) (omega (arith, at-start .pre .0, at-start .pre .1)))
+    (at-append .append .ensures .0) (at-append .append .ensures .1)) (rw e)
 
 pub append-part-spec : {M : Type 1} → statement M
 append-part-spec =

@@ -21,10 +21,18 @@ returns : tie.Need-returns
 returns c = absent _ _ _ _ (sym (c .before .before .find-listed .ensures) ∙ c .enum-told .given .1)
 
 locate-at-requires : tie.Need-locate-at-requires
-locate-at-requires c κs = (placed (hasHandle _) [] (c .before .before .before .before .before .args .list .now) 0 _ (sym (c .before .before .before .find-listed .ensures) ∙ c .before .i .given .1) .inside, c .before .before .before .before .before .pre .1)
+locate-at-requires c κs =
+    let at-find-listed = c .before .before .before in
+    let at-start = at-find-listed .before .before in (
+      placed (hasHandle _) [] (at-start .args .list .now) 0 _
+          (sym (at-find-listed .find-listed .ensures) ∙ c .before .i .given .1) .inside,
+      at-start .pre .1,
+    )
 
 returns-2 : tie.Need-returns-2
-returns-2 c = c .locate-at .ensures ∙ listed _ _ _ _ _ (sym (c .before .before .before .before .find-listed .ensures) ∙ c .before .before .i .given .1)
+returns-2 c =
+    let at-find-listed = c .before .before .before .before in
+    c .locate-at .ensures ∙ listed _ _ _ _ _ (sym (at-find-listed .find-listed .ensures) ∙ c .before .before .i .given .1)
 
 pub locate-spec : {M : Type 1} → statement M
 locate-spec =

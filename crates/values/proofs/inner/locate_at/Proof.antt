@@ -27,10 +27,17 @@ enum-known-code : tie.Need-enum-known-code
 enum-known-code c = search needs
 
 returns : tie.Need-returns
-returns c = c .locate-value .ensures ∙ may _ _ _ (rw (← c .before .before .before .before .decode .ensures) (sym (c .before .before .before .may-read .ensures) ∙ c .before .enum-told .given .1))
+returns c =
+    let at-may-read = c .before .before .before in
+    let at-decode = at-may-read .before in
+    c .locate-value .ensures ∙ may _ _ _
+    (rw (← at-decode .decode .ensures) (sym (at-may-read .may-read .ensures) ∙ c .before .enum-told .given .1))
 
 returns-2 : tie.Need-returns-2
-returns-2 c = may-not _ _ _ _ (rw (← c .before .before .before .before .decode .ensures) (sym (c .before .before .before .may-read .ensures) ∙ c .before .code .given .1))
+returns-2 c =
+    let at-may-read = c .before .before .before in
+    let at-decode = at-may-read .before in
+    may-not _ _ _ _ (rw (← at-decode .decode .ensures) (sym (at-may-read .may-read .ensures) ∙ c .before .code .given .1))
 
 pub locate-at-spec : {M : Type 1} → statement M
 locate-at-spec =

@@ -22,17 +22,24 @@ returns c = none-own _ _ (sym (c .before .before .find .ensures) ∙ c .enum-tol
 
 value-start-requires : tie.Need-value-start-requires
 value-start-requires c κs =
-    let i = placed _ _ _ (sym (c .before .before .before .find .ensures) ∙ c .before .p .given .1) .inside in
-    omega (arith, fits _ (c .before .before .before .before .before .pre))
+    let at-find = c .before .before .before in
+    let at-start = at-find .before .before in
+    let i = placed _ _ _ (sym (at-find .find .ensures) ∙ c .before .p .given .1) .inside in
+    omega (arith, fits _ (at-start .pre))
 
 value-len-requires : tie.Need-value-len-requires
 value-len-requires c κs =
-    let i = placed _ _ _ (sym (c .before .before .before .before .find .ensures) ∙ c .before .before .p .given .1) .inside in
-    let e = entry-at _ (c .before .before .before .before .before .before .pre) _ i in
-    omega (arith, fits _ (c .before .before .before .before .before .before .pre))
+    let at-find = c .before .before .before .before in
+    let at-start = at-find .before .before in
+    let i = placed _ _ _ (sym (at-find .find .ensures) ∙ c .before .before .p .given .1) .inside in
+    let e = entry-at _ (at-start .pre) _ i in
+    omega (arith, fits _ (at-start .pre))
 
 returns-2 : tie.Need-returns-2
-returns-2 c = one-own _ _ _ _ _ (sym (c .before .before .before .before .before .find .ensures) ∙ c .before .before .before .p .given .1) (c .before .value-start .ensures .0) (c .value-len .ensures .0)
+returns-2 c =
+    let at-p = c .before .before .before in
+    let at-find = at-p .before .before in
+    one-own _ _ _ _ _ (sym (at-find .find .ensures) ∙ at-p .p .given .1) (c .before .value-start .ensures .0) (c .value-len .ensures .0)
 
 pub locate-own-spec : {M : Type 1} → statement M
 locate-own-spec =

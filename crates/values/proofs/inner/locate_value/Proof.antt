@@ -16,10 +16,14 @@ decode-requires : tie.Need-decode-requires
 decode-requires c κs = search needs
 
 locate-own-requires : tie.Need-locate-own-requires
-locate-own-requires c κs = c .before .before .before .before .pre .1
+locate-own-requires c κs =
+    let at-start = c .before .before .before .before in
+    at-start .pre .1
 
 returns : tie.Need-returns
-returns c = c .locate-own .ensures ∙ of-client _ (c .before .before .decode .result) (c .before .if1 .taken) ∙ rw (c .before .before .decode .ensures)
+returns c =
+    let at-decode = c .before .before in
+    c .locate-own .ensures ∙ of-client _ (at-decode .decode .result) (c .before .if1 .taken) ∙ rw (at-decode .decode .ensures)
 
 cast-t5 : tie.Need-cast-t5
 cast-t5 c = search needs
@@ -28,7 +32,10 @@ cast-t9 : tie.Need-cast-t9
 cast-t9 c = search needs
 
 returns-2 : tie.Need-returns-2
-returns-2 c = of-store (now (c .before .before .before .before .before .before .args .table)) (c .before .before .before .decode .result) (c .before .before .if1 .left) ∙ rw (c .before .before .before .decode .ensures)
+returns-2 c =
+    let at-decode = c .before .before .before in
+    let at-start = at-decode .before .before .before in
+    of-store (now (at-start .args .table)) (at-decode .decode .result) (c .before .before .if1 .left) ∙ rw (at-decode .decode .ensures)
 
 pub locate-value-spec : {M : Type 1} → statement M
 locate-value-spec =

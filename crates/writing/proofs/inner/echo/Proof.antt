@@ -23,7 +23,16 @@ same-length : tie.Need-same-length
 same-length c = search needs
 
 returns : tie.Need-returns
-returns c = echoed _ _ _ _ _ _ _ _ _ _ _ _ _ (c .before .before .before .before .before .before .before .before .before .before .before .before .before .before .before .before .before .before .before .pre) (c .before .before .before .before .before .before .before .before .before .before .before .before .before .before .before .before .new .ensures .0) (c .before .before .before .before .before .before .before .before .before .before .before .before .before .before .byte .ensures .0) (c .before .before .before .before .before .before .before .before .before .before .before .before .before .before .byte .ensures .1) (c .before .before .before .before .before .before .before .before .before .before .word .ensures .0) (c .before .before .before .before .before .before .before .before .before .before .word .ensures .1) (c .before .before .before .before .before .before .word2 .ensures .0) (c .before .before .before .before .before .before .word2 .ensures .1) (c .before .before .append .ensures .0) (c .before .before .append .ensures .1)
+returns c =
+    let at-append = c .before .before in
+    let at-word2 = at-append .before .before .before .before in
+    let at-word = at-word2 .before .before .before .before in
+    let at-byte = at-word .before .before .before .before in
+    let at-new = at-byte .before .before in
+    let at-start = at-new .before .before .before in
+    echoed _ _ _ _ _ _ _ _ _ _ _ _ _ (at-start .pre) (at-new .new .ensures .0) (at-byte .byte .ensures .0) (at-byte .byte .ensures .1)
+    (at-word .word .ensures .0) (at-word .word .ensures .1) (at-word2 .word2 .ensures .0) (at-word2 .word2 .ensures .1)
+    (at-append .append .ensures .0) (at-append .append .ensures .1)
 
 pub echo-spec : {M : Type 1} → statement M
 echo-spec =

@@ -21,8 +21,11 @@ same-length c = search needs
 
 returns : tie.Need-returns
 returns c =
-    let e = sym (c .before .before .before .before .before .before .before .may-prepare .ensures) ∙ c .before .before .before .before .before .code .given .1 in
-    let a = c .before .before .before .before .before .before .before .before .before .before .before .args in
+    let at-code = c .before .before .before .before .before in
+    let at-may-prepare = at-code .before .before in
+    let at-start = at-may-prepare .before .before .before .before in
+    let e = sym (at-may-prepare .may-prepare .ensures) ∙ at-code .code .given .1 in
+    let a = at-start .args in
     let r = refused (a .p) (a .handle) (a .offset) _ _ (a .bytes .now) (a .d .now) refl e in
     (r .0, r .1, answered _ _ _ _ (sent-as _ _ _ _ _ (c .before .before .error-response .ensures) (r .2)))
 
@@ -34,20 +37,28 @@ cast-copy c = search needs
 
 copy-requires : tie.Need-copy-requires
 copy-requires c κs =
-    let e = sym (c .before .before .before .before .may-prepare .ensures) ∙ c .before .before .enum-told .given .1 in
-    omega (arith, granted-fits _ _ _ _ e, c .before .before .before .before .before .before .before .before .pre .2)
+    let at-may-prepare = c .before .before .before .before in
+    let at-start = at-may-prepare .before .before .before .before in
+    let e = sym (at-may-prepare .may-prepare .ensures) ∙ c .before .before .enum-told .given .1 in
+    omega (arith, granted-fits _ _ _ _ e, at-start .pre .2)
 
 echo-requires : tie.Need-echo-requires
-echo-requires c κs = c .before .before .before .before .before .before .before .before .before .before .before .before .pre .1
+echo-requires c κs =
+    let at-start = c .before .before .before .before .before .before .before .before .before .before .before .before in
+    at-start .pre .1
 
 cast-grow : tie.Need-cast-grow
 cast-grow c =
-    let e = sym (c .before .before .before .before .before .before .before .before .before .before .before .may-prepare .ensures) ∙ c .before .before .before .before .before .before .before .before .before .enum-told .given .1 in
+    let at-told = c .before .before .before .before .before .before .before .before .before in
+    let at-may-prepare = at-told .before .before in
+    let e = sym (at-may-prepare .may-prepare .ensures) ∙ at-told .enum-told .given .1 in
     omega (arith, granted-fits _ _ _ _ e)
 
 grow-requires : tie.Need-grow-requires
 grow-requires c κs =
-    let e = sym (c .before .before .before .before .before .before .before .before .before .before .before .may-prepare .ensures) ∙ c .before .before .before .before .before .before .before .before .before .enum-told .given .1 in
+    let at-told = c .before .before .before .before .before .before .before .before .before in
+    let at-may-prepare = at-told .before .before in
+    let e = sym (at-may-prepare .may-prepare .ensures) ∙ at-told .enum-told .given .1 in
     omega (arith, granted-fits _ _ _ _ e)
 
 same-length-2 : tie.Need-same-length-2
@@ -58,10 +69,15 @@ same-length-3 c = search needs
 
 returns-2 : tie.Need-returns-2
 returns-2 c =
-    let e = sym (c .before .before .before .before .before .before .before .before .before .before .before .before .may-prepare .ensures) ∙ c .before .before .before .before .before .before .before .before .before .before .enum-told .given .1 in
-    let a = c .before .before .before .before .before .before .before .before .before .before .before .before .before .before .before .before .args in
-    let r = taken (a .p) (a .handle) (a .offset) _ (a .bytes .now) _ (a .d .now) _ refl e (c .grow .ensures) (c .before .before .before .before .before .before .before .copy .ensures) in
-    (r .0, r .1, answered _ _ _ _ (sent-as _ _ _ _ _ (c .before .before .before .echo .ensures) (r .2)))
+    let at-echo = c .before .before .before in
+    let at-copy = at-echo .before .before .before .before in
+    let at-told = at-copy .before .before .before in
+    let at-may-prepare = at-told .before .before in
+    let at-start = at-may-prepare .before .before .before .before in
+    let e = sym (at-may-prepare .may-prepare .ensures) ∙ at-told .enum-told .given .1 in
+    let a = at-start .args in
+    let r = taken (a .p) (a .handle) (a .offset) _ (a .bytes .now) _ (a .d .now) _ refl e (c .grow .ensures) (at-copy .copy .ensures) in
+    (r .0, r .1, answered _ _ _ _ (sent-as _ _ _ _ _ (at-echo .echo .ensures) (r .2)))
 
 pub prepare-spec : {M : Type 1} → statement M
 prepare-spec =

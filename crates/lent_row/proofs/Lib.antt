@@ -1,0 +1,5 @@
+pub mod Steps
+pub mod Calls
+pub mod Rows
+pub mod Loading
+pub mod Lends
