@@ -3,3 +3,4 @@ pub mod Calls
 pub mod Rows
 pub mod Loading
 pub mod Lends
+pub mod Memory
