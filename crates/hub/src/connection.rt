@@ -7,7 +7,7 @@ ghost use Rattle.edge.specs.Asked.{isSet};
 use edge::Reply;
 use edge::number::refused;
 use lent_row::first;
-use lent_row::load;
+use lent_row::inner::load;
 use peers::Identity;
 use peers::Slot;
 use peers::Want;

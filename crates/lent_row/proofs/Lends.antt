@@ -42,8 +42,8 @@ use Rattle.lent_row.proofs.Calls.{Known, calls-lent}
 use Rattle.lent_row.proofs.Rows.{Row, row-low, row-tells, lowered-is}
 use Rattle.lent_row.proofs.first as seek
 use Rattle.lent_row.proofs.first.Symbol.{name as #first}
-use Rattle.lent_row.proofs.load as gather
-use Rattle.lent_row.proofs.load.Symbol.{name as #load}
+use Rattle.lent_row.proofs.inner.load as gather
+use Rattle.lent_row.proofs.inner.load.Symbol.{name as #load}
 
 -- each that can be wanted, at its machine value
 pub is-want : (want : Want) → Is N.the-row want (N′.lowered want ∷ [])

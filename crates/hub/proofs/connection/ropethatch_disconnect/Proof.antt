@@ -75,10 +75,10 @@ use Rattle.lent_row.proofs.first as seek
 use Rattle.lent_row.proofs.first.Symbol as seek-def
 use Rattle.lent_row.proofs.first.Symbol.{name as #seek}
 use Rattle.lent_row.proofs.first.Met as seek-thm
-use Rattle.lent_row.proofs.load as gather
-use Rattle.lent_row.proofs.load.Symbol as gather-def
-use Rattle.lent_row.proofs.load.Symbol.{name as #gather}
-use Rattle.lent_row.proofs.load.Met as gather-thm
+use Rattle.lent_row.proofs.inner.load as gather
+use Rattle.lent_row.proofs.inner.load.Symbol as gather-def
+use Rattle.lent_row.proofs.inner.load.Symbol.{name as #gather}
+use Rattle.lent_row.proofs.inner.load.Met as gather-thm
 use Rattle.edge.proofs.number.refused as none
 use Rattle.edge.proofs.number.refused.Symbol as none-def
 use Rattle.edge.proofs.number.refused.Symbol.{name as #none}
@@ -259,6 +259,6 @@ ropethatch-disconnect-spec 𝓤 H 𝓜 𝓖 𝓡 =
     (tables 𝓤 H 𝓜 𝓡 code.env .C) (tables 𝓤 H 𝓜 𝓡 code.env .Λ) #self code.function (code.unfolded 𝓤 H 𝓜 𝓡)
     (meets 𝓤 H (𝓖 .A) (givenOf 𝓤 H 𝓜 𝓖) (𝓜 .mem) (𝓡 .run) (tablesOf 𝓤 H 𝓜 (tables 𝓤 H 𝓜 𝓡 code.env))
     (cited 𝓤 H (tripleOf 𝓤 H (𝓖 .A) seek.signature (seek.spec 𝓤 H (𝓖 .A) (𝓜 .mem) (𝓡 .run))) 𝓜 𝓡 code.env #seek seek-def.routine code.calls-lent-row·first (seek-thm.met 𝓤 H 𝓜 𝓖 𝓡))
-    (cited 𝓤 H (tripleOf 𝓤 H (𝓖 .A) gather.signature (gather.spec 𝓤 H (𝓖 .A) (𝓜 .mem) (𝓡 .run))) 𝓜 𝓡 code.env #gather gather-def.routine code.calls-lent-row·load (gather-thm.met 𝓤 H 𝓜 𝓖 𝓡))
+    (cited 𝓤 H (tripleOf 𝓤 H (𝓖 .A) gather.signature (gather.spec 𝓤 H (𝓖 .A) (𝓜 .mem) (𝓡 .run))) 𝓜 𝓡 code.env #gather gather-def.routine code.calls-lent-row·inner·load (gather-thm.met 𝓤 H 𝓜 𝓖 𝓡))
     (cited 𝓤 H (tripleOf 𝓤 H (𝓖 .A) none.signature (none.spec 𝓤 H (𝓖 .A) (𝓜 .mem) (𝓡 .run))) 𝓜 𝓡 code.env #none none-def.routine code.calls-edge·number·refused (none-thm.met 𝓤 H 𝓜 𝓖 𝓡))
     (cited 𝓤 H (tripleOf 𝓤 H (𝓖 .A) core.signature (core.spec 𝓤 H (𝓖 .A) (𝓜 .mem) (𝓡 .run))) 𝓜 𝓡 code.env #core core-def.routine code.calls-edge·inner·disconnect (core-thm.met 𝓤 H 𝓜 𝓖 𝓡)))

@@ -1,4 +1,4 @@
--- `lent_row::load` meets its contract: a walk of its MIR, by hand. A turn copies one element and hands it with the row so far to `with_slot`; the loop's index holds that row. Assumes nothing.
+-- `lent_row::inner::load` meets its contract: a walk of its MIR, by hand. A turn copies one element and hands it with the row so far to `with_slot`; the loop's index holds that row. Assumes nothing.
 use mathlib.Core.Path.{_≡_, refl, sym, ap, subst}
 use Prim.Native.Nat.{ℕ, _+_, _-_, _<_, _≤_, _^_}
 use native.Mathlib.Omega.{arith}
@@ -45,21 +45,21 @@ use Rattle.peers.specs.declared.Slot.{Slot}
 use Rattle.lent_row.proofs.Loading.{loadFrom, load-more, load-end, load-start}
 use Rattle.peers.proofs.Slot as S
 use Rattle.peers.proofs.Slot.Laws as S′
-use Rattle.lent_row.proofs.nobodys as start
-use Rattle.lent_row.proofs.nobodys.Symbol as start-def
-use Rattle.lent_row.proofs.nobodys.Symbol.{name as #start}
-use Rattle.lent_row.proofs.nobodys.Met as start-thm
-use Rattle.lent_row.proofs.with_slot as with′
-use Rattle.lent_row.proofs.with_slot.Symbol as with-def
-use Rattle.lent_row.proofs.with_slot.Symbol.{name as #with}
-use Rattle.lent_row.proofs.with_slot.Met as with-thm
+use Rattle.lent_row.proofs.inner.nobodys as start
+use Rattle.lent_row.proofs.inner.nobodys.Symbol as start-def
+use Rattle.lent_row.proofs.inner.nobodys.Symbol.{name as #start}
+use Rattle.lent_row.proofs.inner.nobodys.Met as start-thm
+use Rattle.lent_row.proofs.inner.with_slot as with′
+use Rattle.lent_row.proofs.inner.with_slot.Symbol as with-def
+use Rattle.lent_row.proofs.inner.with_slot.Symbol.{name as #with}
+use Rattle.lent_row.proofs.inner.with_slot.Met as with-thm
 use Rattle.lent_row.proofs.Calls.{Known, calls-plain}
 use Rattle.lent_row.proofs.Rows.{Row, vals, row-low, row-tells, row-makes, row-typed, lowered-is, byte-fits}
 use Rattle.lent_row.proofs.Steps.{spare, holds, tests, full1, whiles}
-use Rattle.lent_row.proofs.load.Key.{name as #self}
-use Rattle.lent_row.proofs.load as f
-use Rattle.lent_row.proofs.load.Statement as stated
-use Rattle.lent_row.proofs.load.Code as code
+use Rattle.lent_row.proofs.inner.load.Key.{name as #self}
+use Rattle.lent_row.proofs.inner.load as f
+use Rattle.lent_row.proofs.inner.load.Statement as stated
+use Rattle.lent_row.proofs.inner.load.Code as code
 
 abbrev stayed : Stays (f.ended .signature .params) (f.ended .kept)
 stayed = (stay-dropped (shrSliceOf (0 ∷ []) tt (plain (λ _. S.the-row))) yes, tt)
@@ -152,5 +152,5 @@ load-spec 𝓤 H 𝓜 𝓖 𝓡 =
     entered 𝓤 H (tripleOf 𝓤 H (𝓖 .A) f.signature (f.spec 𝓤 H (𝓖 .A) (𝓜 .mem) (𝓡 .run)))
     (tables 𝓤 H 𝓜 𝓡 code.env .C) (tables 𝓤 H 𝓜 𝓡 code.env .Λ) #self code.function (code.unfolded 𝓤 H 𝓜 𝓡)
     (meets 𝓤 H (𝓖 .A) (givenOf 𝓤 H 𝓜 𝓖) (𝓜 .mem) (𝓡 .run) (tablesOf 𝓤 H 𝓜 (tables 𝓤 H 𝓜 𝓡 code.env))
-    (cited 𝓤 H (tripleOf 𝓤 H (𝓖 .A) start.signature (start.spec 𝓤 H (𝓖 .A) (𝓜 .mem) (𝓡 .run))) 𝓜 𝓡 code.env #start start-def.routine code.calls-lent-row·nobodys (start-thm.met 𝓤 H 𝓜 𝓖 𝓡))
-    (cited 𝓤 H (tripleOf 𝓤 H (𝓖 .A) with′.signature (with′.spec 𝓤 H (𝓖 .A) (𝓜 .mem) (𝓡 .run))) 𝓜 𝓡 code.env #with with-def.routine code.calls-lent-row·with-slot (with-thm.met 𝓤 H 𝓜 𝓖 𝓡)))
+    (cited 𝓤 H (tripleOf 𝓤 H (𝓖 .A) start.signature (start.spec 𝓤 H (𝓖 .A) (𝓜 .mem) (𝓡 .run))) 𝓜 𝓡 code.env #start start-def.routine code.calls-lent-row·inner·nobodys (start-thm.met 𝓤 H 𝓜 𝓖 𝓡))
+    (cited 𝓤 H (tripleOf 𝓤 H (𝓖 .A) with′.signature (with′.spec 𝓤 H (𝓖 .A) (𝓜 .mem) (𝓡 .run))) 𝓜 𝓡 code.env #with with-def.routine code.calls-lent-row·inner·with-slot (with-thm.met 𝓤 H 𝓜 𝓖 𝓡)))
