@@ -22,5 +22,5 @@ END {
     row("validation")
     for (i = 1; i <= kinds; i++) row(order[i])
     if (!steeper) steeper = "; none"
-    printf "| calls whose cost for each more attribute rises (32 to 64 over 16 to 32) by more than a twentieth | none | %s |\n", substr(steeper, 3) >>bars
+    printf "| calls that grow faster than the list | none | %s |\n", substr(steeper, 3) >>bars
 }

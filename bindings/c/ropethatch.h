@@ -1,4 +1,4 @@
-/* ropethatch.h: the Ropethatch attribute server, called from C or C++. Link with libhub.a (x86-64 Linux only; nothing else is needed).
+/* ropethatch.h: the Ropethatch attribute server, called from C or C++. Link with libropethatch.a (x86-64 Linux only; nothing else is needed).
 
    The library allocates nothing and keeps nothing between calls. The hub is yours: you lend its parts to each call, the same ones
    every time, and the call changes them in place. They are

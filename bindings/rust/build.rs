@@ -1,4 +1,4 @@
-//! Links the proved archive `libhub.a`, and stops with a clear message where that can't be done.
+//! Links the proved archive `libropethatch.a`, and stops with a clear message where that can't be done.
 
 use std::env;
 use std::path::PathBuf;
@@ -20,7 +20,7 @@ fn check_target() {
     if !fits {
         let target = env::var("TARGET").unwrap_or_default();
         fail(&format!(
-            "libhub.a is x86-64 Linux code and can't be linked into a program for {target}; \
+            "libropethatch.a is x86-64 Linux code and can't be linked into a program for {target}; \
              build with --target x86_64-unknown-linux-gnu"
         ));
     }
@@ -38,17 +38,17 @@ fn archive_dir() -> PathBuf {
 }
 
 fn link(dir: PathBuf) {
-    let archive = dir.join("libhub.a");
+    let archive = dir.join("libropethatch.a");
     println!("cargo:rerun-if-changed={}", archive.display());
     if !archive.is_file() {
         fail(&format!(
-            "there is no {}; build it at the project's root with `rt staticlib hub`, \
-             or name the folder that holds libhub.a in ROPETHATCH_LIB_DIR",
+            "there is no {}; build it at the project's root with `rt staticlib ropethatch`, \
+             or name the folder that holds libropethatch.a in ROPETHATCH_LIB_DIR",
             archive.display()
         ));
     }
     println!("cargo:rustc-link-search=native={}", dir.display());
-    println!("cargo:rustc-link-lib=static=hub");
+    println!("cargo:rustc-link-lib=static=ropethatch");
 }
 
 fn fail(why: &str) -> ! {

@@ -247,7 +247,7 @@ pub(crate) fn value(reply: Reply) -> Result<usize, CallError> {
 
 /// The library is proved never to answer so: another archive has been linked than the one that this crate is for.
 fn broken(reply: Reply) -> ! {
-    panic!("libhub.a is not the library that this crate was written for: it answered {reply:?}")
+    panic!("libropethatch.a is not the library that this crate was written for: it answered {reply:?}")
 }
 
 #[cfg(test)]

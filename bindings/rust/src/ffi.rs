@@ -1,4 +1,4 @@
-//! The boundary to `libhub.a`, all of it: the structs that cross it and the functions behind it.
+//! The boundary to `libropethatch.a`, all of it: the structs that cross it and the functions behind it.
 //!
 //! Nothing checks this file against the archive but the sizes below and the tests, so it is kept in one place, in the
 //! archive's own order and with its own names. A lent slice is a pointer and the count of its elements.

@@ -1,7 +1,7 @@
 //! A Bluetooth attribute server for classroom hubs, proved in Rattle and used from safe Rust.
 //!
 //! Tablets write a pupil's code to the hub; the hub keeps it and answers what tablets ask. Every answer comes from
-//! `libhub.a`, whose calls are proved to give exactly what the requirements say, for any bytes at all. This crate adds no
+//! `libropethatch.a`, whose calls are proved to give exactly what the requirements say, for any bytes at all. This crate adds no
 //! rule of its own: it lends memory to the library and turns its answers into Rust's types.
 //!
 //! 1. List the attributes in a [`ListBuilder`], and open a [`Hub`].
@@ -45,7 +45,7 @@
 //! # What is proved, and what is not
 //!
 //! The library's answers and every byte that it leaves are proved. This crate is not: its `extern` block is written by hand
-//! and held to the library by the tests. The library runs on x86-64 Linux only, and needs `libhub.a` to link: see
+//! and held to the library by the tests. The library runs on x86-64 Linux only, and needs `libropethatch.a` to link: see
 //! `build.rs`.
 
 #![deny(unsafe_op_in_unsafe_fn)]
@@ -74,3 +74,8 @@ pub use saved::SavedTable;
 #[cfg(doctest)]
 #[doc = include_str!("../README.md")]
 struct Readme;
+
+/// The example of the project's README, likewise.
+#[cfg(doctest)]
+#[doc = include_str!("../../../README.md")]
+struct ProjectReadme;

@@ -15,7 +15,7 @@ use Rattle.attribute.specs.declared.Access.{Access}
 use Rattle.reading.specs.Copy.{copiedOf, copyOf}
 use Rattle.reading.specs.declared.Copied.{Copied}
 use Rattle.state.specs.State.{Becomes}
-use Rattle.model.specs.Value.{Got, Bytes, Code, readOf, writeOf}
+use Rattle.model.specs.Value.{Contents, Bytes, Code, readOf, writeOf}
 use Rattle.model.specs.View.{tableAt}
 use Rattle.model.specs.Told.{toldAnswer, Answered}
 use Rattle.model.specs.Change.{putAt}
@@ -25,7 +25,7 @@ use Rattle.model.proofs.Sending.{answered}
 use Rattle.application.specs.Calls.{answerCopied, gotTold, fetchTold, isWrongLength, storeTold, storeLeft}
 
 -- `get`: what is copied is what is told
-copy-told : (old : List ℕ) (g : Got) → Answered old (copyOf old g) (answerCopied (copiedOf (length old) g)) (gotTold (length old) g)
+copy-told : (old : List ℕ) (g : Contents) → Answered old (copyOf old g) (answerCopied (copiedOf (length old) g)) (gotTold (length old) g)
 unfolding copyOf copiedOf
 copy-told old (Bytes v) =
     let l = length-take (length old) v in

@@ -1,5 +1,5 @@
--- What `set` leaves of the state: all as it was, or the value put at a listed place. Said of two hubs with one list and one row, side by side; one hub
--- stands beside itself. Assumes nothing.
+-- What `set` leaves of the state: all as it was, or the value put at a listed place. Said of two hubs with one list and
+-- one row, side by side; one hub stands beside itself. Assumes nothing.
 use mathlib.Core.Path.{_≡_, refl}
 use mathlib.Core.Bool.{Bool, true, false, cond}
 use mathlib.Core.List.{List, []}

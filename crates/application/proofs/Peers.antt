@@ -16,10 +16,10 @@ use Rattle.wire.specs.declared.Found.the-variants.{At, Nothing}
 use Rattle.wire.proofs.Tests.{both-true}
 use Rattle.table_view.specs.Layout.{countOf, valueAt}
 use Rattle.table_view.specs.Rules.{accepts}
-use Rattle.table_view.specs.Lookup.{placeOf}
+use Rattle.table_view.specs.Lookup.{indexPlace}
 use Rattle.table_view.specs.View.{Item, itemAt, itemsFrom}
 use Rattle.table_view.specs.declared.Place.{Place}
-use Rattle.table_view.specs.declared.Found.the-variants as kept
+use Rattle.table_view.specs.declared.Indexed.the-variants as kept
 use Rattle.table_view.proofs.Items.{first-place}
 use Rattle.client_att_table.specs.SetValues.{setAll, afterSet}
 use Rattle.model.specs.View.{tableAt}
@@ -31,11 +31,11 @@ use Rattle.application.specs.Calls.{hasBit, isSubscribed, tableTold, res
 
 -- a subscription
 module _ (t : List ℕ) (h bit : ℕ) where
-  pub no-value : placeOf t h ≡ kept.Nothing → false ≡ isSubscribed t h bit
+  pub no-value : indexPlace t h ≡ kept.Nothing → false ≡ isSubscribed t h bit
   unfolding isSubscribed
   no-value e = sym (first-place t h (λ (x : Item). hasBit bit (x .value)) false ∙ rw e)
 
-  module _ (p : Place) (e : placeOf t h ≡ kept.At p) (v : List ℕ) (is : v ≡ valueAt t (p .0)) where
+  module _ (p : Place) (e : indexPlace t h ≡ kept.At p) (v : List ℕ) (is : v ≡ valueAt t (p .0)) where
     by-value : isSubscribed t h bit ≡ hasBit bit v
     unfolding isSubscribed itemAt
     by-value = first-place t h (λ (x : Item). hasBit bit (x .value)) false ∙ rw (e, is)

@@ -17,7 +17,7 @@ use Rattle.attribute.specs.declared.Attribute.{Attribute}
 use Rattle.state.specs.State.{State}
 use Rattle.reading.specs.declared.Copied.{Copied}
 use Rattle.reading.specs.declared.Copied.the-variants as copied
-use Rattle.model.specs.Value.{Got, Bytes, Code, readOf, writeOf}
+use Rattle.model.specs.Value.{Contents, Bytes, Code, readOf, writeOf}
 use Rattle.model.specs.Change.{putAt}
 use Rattle.model.specs.declared.Answer.{Answer}
 use Rattle.model.specs.declared.Answer.the-variants as answer
@@ -28,7 +28,7 @@ answerCopied (copied.Value n) = answer.Value n
 answerCopied (copied.Code c) = answer.Code c
 
 -- `get`: as much of the value as the buffer can take, or the read rule's code; refusal 8 where the handle is not listed
-abbrev pub gotTold : ℕ → Got → Told
+abbrev pub gotTold : ℕ → Contents → Told
 gotTold room (Bytes v) = value (take room v)
 gotTold room (Code c) = att c
 
@@ -62,7 +62,8 @@ abbrev pub tableTold : List (List ℕ) → Found → Told
 tableTold ts Nothing = none
 tableTold ts (At k) = value (getD ts k [])
 
--- `set_client_att_table`: refusal 4 for a table that the reading rules do not accept; its values go into the table of the peer's slot
+-- `set_client_att_table`: refusal 4 for a table that the reading rules do not accept; its values go into the table of
+-- the peer's slot
 unfoldable pub restoreTold : List ℕ → Told
 restoreTold saved = cond (accepts saved) done (refused 4)
 

@@ -12,7 +12,7 @@ ghost use Rattle.attribute.specs.Needs.{toldAccess};
 ghost use Rattle.state.specs.State.{Becomes};
 ghost use Rattle.model.specs.View.{tableAt};
 ghost use Rattle.model.specs.Told.{toldAnswer, Answered};
-ghost use Rattle.storing.specs.Ready.{SlotReady, Ready};
+ghost use Rattle.storing.specs.Ready.{SlotReady, ReadyToStore};
 ghost use Rattle.application.specs.Calls.{answerCopied, isWrongLength, fetchTold, storeTold, storeLeft, isSubscribed, tableTold, restoreTold, restored};
 use attribute::Access;
 use model::Answer;
@@ -51,10 +51,10 @@ pub fn get(
     handle: u16,
     out: &mut [u8],
 ) -> Answer
-    requires { ⌜ Ready (now list) (length (now store)) (now tables) slot ⌝ }
+    requires { ⌜ ReadyToStore (now list) (length (now store)) (now tables) slot ⌝ }
     ensures { λ r. ⌜ Answered (now (out .entry)) (now (out .exit)) r (fetchTold (now (list .entry)) (now (store .entry)) (tableAt (now (tables .entry)) slot) (placeOf (now (list .entry)) handle) (length (now (out .entry)))) ⌝ }
 {
-    let Found::At(i) = attribute::walk::find_listed(list, handle) else {
+    let Found::At(i) = attribute_walk::walk::find_listed(list, handle) else {
         return Answer::NoHandle;
     };
     match slot {
@@ -84,11 +84,11 @@ pub fn set(
     handle: u16,
     d: &[u8],
 ) -> Answer
-    requires { ⌜ Ready (now list) (length (now store)) (now tables) slot ⌝ }
+    requires { ⌜ ReadyToStore (now list) (length (now store)) (now tables) slot ⌝ }
     ensures { λ r. ⌜ (toldAnswer [] r ≡ storeTold (now (list .entry)) (now (store .entry)) (tableAt (now (tables .entry)) slot) (placeOf (now (list .entry)) handle) (length (now (d .entry))))
         × Becomes (λ s. storeLeft s slot (placeOf (now (list .entry)) handle) (now (d .entry))) (now (list .entry)) (now (store .entry)) (now (tables .entry)) (now (list .exit)) (now (store .exit)) (now (tables .exit)) ⌝ }
 {
-    let Found::At(i) = attribute::walk::find_listed(list, handle) else {
+    let Found::At(i) = attribute_walk::walk::find_listed(list, handle) else {
         return Answer::NoHandle;
     };
     if is_wrong_length(list, i, d.len()) {
@@ -102,7 +102,7 @@ fn has_bit(table: &[u8], handle: u16, bit: u8) -> bool
     requires { ⌜ (accepts (now table) ≡ true) × (0 < bit) ⌝ }
     ensures { λ r. ⌜ r ≡ isSubscribed (now (table .entry)) handle bit ⌝ }
 {
-    let table_view::Found::At(p) = table_view::inner::find(table, Key(handle)) else {
+    let table_view::Indexed::At(p) = table_view::inner::find(table, Key(handle)) else {
         return false;
     };
     let v = table_view::inner::value(table, p);

@@ -1,2 +1,3 @@
-// What the application asks of a valid state: values and subscriptions of a peer, without a permission test, and its whole table.
+// What the application asks of a valid state: values and subscriptions of a peer, without a permission test, and its
+// whole table.
 pub mod inner;

@@ -1,4 +1,5 @@
--- A record with another present length: its other fields and its UUID stay, and a right list stays right. By the laws of `sets`, and by induction over the list. Assumes nothing.
+-- A record with another present length: its other fields and its UUID stay, and a right list stays right. By the laws
+-- of `sets`, and by induction over the list. Assumes nothing.
 use mathlib.Core.Path.{_≡_, refl}
 use mathlib.Core.Bool.{Bool, true, false, cond}
 use mathlib.Core.List.{List, [], _∷_}
@@ -47,22 +48,22 @@ module _ (r : List ℕ) (n : ℕ) where
   known-kept l = rw (fields-kept l, uuid-kept)
 
 -- a length that an entry may have: a variable value's at most its capacity, any value's its capacity
-pub record Holds (a : Attribute) (n : ℕ) : Type 0 where
+pub record HoldsLength (a : Attribute) (n : ℕ) : Type 0 where
   pub len : n ≤ a .cap
   pub fixed : a .variable ≡ false → n ≡ a .cap
 
 module _ (a : Attribute) (n : ℕ) where
-  pub variable-holds : a .variable ≡ true → n ≤ a .cap → Holds a n
+  pub variable-holds : a .variable ≡ true → n ≤ a .cap → HoldsLength a n
   variable-holds v h = record { len = h; fixed = λ (e : a .variable ≡ false). cc }
 
-  length-ok : Holds a n → cond (a .variable) (leb n (a .cap)) (eqb n (a .cap)) ≡ true
+  length-ok : HoldsLength a n → cond (a .variable) (leb n (a .cap)) (eqb n (a .cap)) ≡ true
   length-ok h = by (a .variable) (h .fixed)
     where
       by : (t : Bool) → (t ≡ false → n ≡ a .cap) → cond t (leb n (a .cap)) (eqb n (a .cap)) ≡ true
       by true f = le-leb _ _ (h .len)
       by false f = eq-eqb _ _ (f refl)
 
-  range-kept : Holds a n → (end store : ℕ) → rangeOk a end store ≡ true → rangeOk (resized a n) end store ≡ true
+  range-kept : HoldsLength a n → (end store : ℕ) → rangeOk a end store ≡ true → rangeOk (resized a n) end store ≡ true
   unfolding rangeOk
   range-kept f end store h = both-true _ _ (both-l _ _ h) (both-true _ _ (both-l _ _ (both-r _ _ h)) (length-ok f))
 
@@ -72,7 +73,7 @@ or-else false x y f h = f h
 
 -- an entry that passes still does, and so do those after it
 module _ (store n : ℕ) where
-  entry-kept : (r : List ℕ) → length r ≡ recordBytes → Holds (attributeOf r) n → (last end : ℕ) → entryOk r last end store ≡ true → entryOk (withLength r n) last end store ≡ true
+  entry-kept : (r : List ℕ) → length r ≡ recordBytes → HoldsLength (attributeOf r) n → (last end : ℕ) → entryOk r last end store ≡ true → entryOk (withLength r n) last end store ≡ true
   unfolding entryOk fieldsOk
   entry-kept r l f last end h =
       let t = both-r _ _ h in
@@ -80,7 +81,7 @@ module _ (store n : ℕ) where
       (both-true _ _ (both-l _ _ h)
       (both-true _ _ (both-l _ _ t) (or-else (attributeOf r .client) _ _ (range-kept (attributeOf r) n f end store) (both-r _ _ t))))
 
-  entries-kept : (list : List (List ℕ)) (i : ℕ) → length (getD list i []) ≡ recordBytes → Holds (attributeOf (getD list i [])) n → (last end : ℕ) → entriesOk list last end store ≡ true → entriesOk (set list i (withLength (getD list i []) n)) last end store ≡ true
+  entries-kept : (list : List (List ℕ)) (i : ℕ) → length (getD list i []) ≡ recordBytes → HoldsLength (attributeOf (getD list i [])) n → (last end : ℕ) → entriesOk list last end store ≡ true → entriesOk (set list i (withLength (getD list i []) n)) last end store ≡ true
   unfolding entriesOk endAfter
   entries-kept [] i l f last end h = h
   entries-kept (r ∷ rs) zero l f last end h =
@@ -88,7 +89,7 @@ module _ (store n : ℕ) where
   entries-kept (r ∷ rs) (suc i) l f last end h = both-true _ _ (both-l _ _ h) (entries-kept rs i l f _ _ (both-r _ _ h))
 
 -- a right list stays right
-pub length-kept : (list : List (List ℕ)) (store : ℕ) → listOk list store ≡ true → (i n : ℕ) → length (getD list i []) ≡ recordBytes → Holds (attributeOf (getD list i [])) n → listOk (set list i (withLength (getD list i []) n)) store ≡ true
+pub length-kept : (list : List (List ℕ)) (store : ℕ) → listOk list store ≡ true → (i n : ℕ) → length (getD list i []) ≡ recordBytes → HoldsLength (attributeOf (getD list i [])) n → listOk (set list i (withLength (getD list i []) n)) store ≡ true
 unfolding listOk
 length-kept list store ok i n l f =
     let t = both-r _ _ ok in

@@ -1,4 +1,5 @@
--- Laws of `specs/Rules.antt`, `specs/Needs.antt` and `specs/Record.antt`: each way by which the code answers, and a turn of its loop. Assumes nothing.
+-- Laws of `specs/Rules.antt`, `specs/Needs.antt` and `specs/Record.antt`: each way by which the code answers, and a
+-- turn of its loop. Assumes nothing.
 use mathlib.Core.Path.{_≡_, _∙_}
 use mathlib.Core.Bool.{true, false}
 use mathlib.Core.List.{List, []}

@@ -22,7 +22,8 @@ abbrev pub toldAccess : Access → Told
 toldAccess Granted = done
 toldAccess (Denied c) = att c
 
--- the highest need that a link meets: 1 any link, 2 encrypted, 3 authenticated, which is encrypted too; a link that is gone meets none
+-- the highest need that a link meets: 1 any link, 2 encrypted, 3 authenticated, which is encrypted too; a link that is
+-- gone meets none
 abbrev pub levelOf : Link → ℕ
 levelOf Plain = 1
 levelOf Encrypted = 2

@@ -1,14 +1,15 @@
 // The attribute list: one record of 32 bytes an entry, lent as a slice of arrays.
 //
 //  0 handle   2 capacity   4 start of the range   6 present length   (two bytes each, low byte first)
-//  8 need for reading   9 need for writing   10 flags: 1 variable, 2 client   11 length of the UUID   12 UUID (16)   28 spare (4)
+//  8 need for reading   9 need for writing   10 flags: 1 variable, 2 client   11 length of the UUID   12 UUID (16)   28
+//  spare (4)
 //
-// `rules` says which lists are right; the lookups can be called with any. What asks something of its caller stands in `inner` and `walk`.
+// `rules` says which lists are right; the lookups can be called with any. What asks something of its caller stands in
+// `inner`.
 pub mod inner;
 pub mod lookup;
 pub mod needs;
 pub mod rules;
-pub mod walk;
 
 // A list entry, but for its UUID. A client value has no range and no length of its own.
 pub struct Attribute {
@@ -20,24 +21,6 @@ pub struct Attribute {
     pub writes: u8,
     pub variable: bool,
     pub client: bool,
-}
-
-// The entries up to place `stop` belong to one group, which ends at handle `end`.
-pub struct Group {
-    pub stop: usize,
-    pub end: u16,
-}
-
-// A stretch of the list: the places from `from` on and before `to`.
-pub struct Stretch {
-    pub from: usize,
-    pub to: usize,
-}
-
-// The short form of a UUID: whether it has one, and its number.
-pub struct ShortForm {
-    pub has: bool,
-    pub value: u16,
 }
 
 // How far a link is trusted. An authenticated one is encrypted too; one that is gone is told so before any need.

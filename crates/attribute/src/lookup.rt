@@ -1,4 +1,4 @@
-// The lookup of a handle in any list. Where handles ascend, `walk` has it by halves.
+// The lookup of a handle in any list. Where handles ascend, `attribute_walk` has it by halves.
 ghost use mathlib.Core.Path.{_≡_};
 ghost use Rattle.attribute.specs.Lookup.{placeOf};
 use crate::inner;

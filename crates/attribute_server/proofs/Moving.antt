@@ -1,4 +1,5 @@
--- Connecting and leaving: what the walks found is the move of the definitions, and a row with the move's slot put is the state after the call. Assumes nothing.
+-- Connecting and leaving: what the walks found is the move of the definitions, and a row with the move's slot put is
+-- the state after the call. Assumes nothing.
 use mathlib.Core.Path.{_≡_, sym, ap, _∙_}
 use mathlib.Core.Bool.{Bool, true}
 use mathlib.Core.List.{List}
@@ -18,11 +19,11 @@ use Rattle.peers.proofs.Laws.{slot-inside}
 use Rattle.peers.proofs.Moves.{join-clears, leave-clears}
 use Rattle.peers.proofs.Changes.{row-stays}
 use Rattle.peers.proofs.Rows.{length-row}
-use Rattle.state.specs.State.{State, state, moved}
-use Rattle.attribute_server.specs.Admission.{admission, leftIf}
+use Rattle.state.specs.State.{State, state, afterMove}
+use Rattle.admission.specs.Admission.{admission, leftIf}
 use Rattle.attribute_server.specs.Connection.{noMove, moveLeft}
-use Rattle.attribute_server.specs.declared.Admission.{Admission}
-use Rattle.attribute_server.specs.declared.Admission.the-variants.{Yes, No}
+use Rattle.admission.specs.declared.Admission.{Admission}
+use Rattle.admission.specs.declared.Admission.the-variants.{Yes, No}
 
 -- what the walks found
 module _ (row : List Slot) (who : Identity) where
@@ -51,7 +52,7 @@ module _ (es : List (List ℕ)) (who : Identity) (m : Move) where
 
 -- the state with the slot of the move that is handed back: the move's own, or none
 module _ (s : State) (m o : Move) (n : ℕ) (len : n ≡ length (s .row)) (row : List Slot) (ts : List (List ℕ)) (put : row ≡ rowMoved (s .row) o) where
-  put-by : (d : Admission) → o ≡ leftIf d (noMove n m) m → ts ≡ leftIf d s (moved s m) .tables → state (s .list) (s .store) row ts ≡ leftIf d s (moved s m)
+  put-by : (d : Admission) → o ≡ leftIf d (noMove n m) m → ts ≡ leftIf d s (afterMove s m) .tables → state (s .list) (s .store) row ts ≡ leftIf d s (afterMove s m)
   put-by Yes e t = λ i. state (s .list) (s .store) ((put ∙ ap (rowMoved (s .row)) e) i) (t i)
   put-by (No a) e t =
       let same = put ∙ ap (rowMoved (s .row)) e ∙ row-stays (s .row) (noMove n m) (le-of-eq (sym len)) in

@@ -11,10 +11,10 @@ use Rattle.model.specs.Told.{Answered}
 use Rattle.model.specs.Answer.{requestTold}
 use Rattle.model.specs.Change.{stateBy, recordBy, dataBy}
 use Rattle.model.specs.declared.Answer.{Answer}
-use Rattle.writing.specs.declared.Changed.{Changed}
+use Rattle.preparing.specs.declared.Changed.{Changed}
 use Rattle.attribute_server.specs.Request.{Query, seenOf, let-in, processTold, waitingBy, Processed}
-use Rattle.attribute_server.specs.declared.Admission.the-variants.{Yes, No}
-use Rattle.attribute_server.proofs.Admitting.{no-answer, yes-answer, left-no, left-yes}
+use Rattle.admission.specs.declared.Admission.the-variants.{Yes, No}
+use Rattle.admission.proofs.Admitting.{no-answer, yes-answer, left-no, left-yes}
 
 same-answer : (old new : List ℕ) (a b : Answer) (t : Told) → Answered old new a t → b ≡ a → Answered old new b t
 same-answer old new a b t h e = rw (sym e) at h

@@ -1,4 +1,5 @@
--- Any two results that satisfy a call's promise are equal: its answer, what it hands back, and every lent byte. Assumes nothing.
+-- Any two results that satisfy a call's promise are equal: its answer, what it hands back, and every lent byte. Assumes
+-- nothing.
 use mathlib.Core.Path.{_≡_, sym, ap, _∙_}
 use mathlib.Core.List.{List, []}
 use Prim.Native.Nat.{ℕ, _<_}
@@ -24,7 +25,8 @@ one-copied = one-answered
 pub one-left : (t : Told) (s : State) (r r′ : Answer) (s₁ s₂ : State) → toldAnswer [] r ≡ t → s₁ ≡ s → toldAnswer [] r′ ≡ t → s₂ ≡ s → (r ≡ r′) × (s₁ ≡ s₂)
 one-left t s r r′ s₁ s₂ p a q b = (one-told t r r′ p q, a ∙ sym b)
 
--- the state fixes the lent bytes: list, store and tables are in it, and a row of slots of eight bytes is fixed by the slots that they are
+-- the state fixes the lent bytes: list, store and tables are in it, and a row of slots of eight bytes is fixed by the
+-- slots that they are
 pub record SameLent (list list′ : List (List ℕ)) (store store′ : List ℕ) (row row′ : List (List ℕ)) (ts ts′ : List (List ℕ)) : Type 0 where
   pub list-is : list ≡ list′
   pub store-is : store ≡ store′

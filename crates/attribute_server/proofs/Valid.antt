@@ -1,4 +1,5 @@
--- Valid in, valid out: every call that changes something keeps a valid state valid, whether it is let in or refused. Assumes nothing.
+-- Valid in, valid out: every call that changes something keeps a valid state valid, whether it is let in or refused.
+-- Assumes nothing.
 use mathlib.Core.Path.{_≡_, refl}
 use mathlib.Core.Bool.{Bool, true, false, cond}
 use mathlib.Core.List.{List, []}
@@ -16,7 +17,7 @@ use Rattle.attribute.specs.declared.Access.the-variants.{Granted, Denied}
 use Rattle.peers.specs.Identity.{isBad}
 use Rattle.peers.specs.Slots.{slotOf, connecting, leaving}
 use Rattle.peers.specs.declared.Identity.{Identity}
-use Rattle.state.specs.State.{State, Waiting, withTables, moved}
+use Rattle.state.specs.State.{State, Waiting, withTables, afterMove}
 use Rattle.state.specs.Valid.{valid, recordOk, validWith}
 use Rattle.state.specs.declared.Prepared.{Prepared}
 use Rattle.state.proofs.Calls.{connect-valid as connected-valid, disconnect-valid as parted-valid}
@@ -31,13 +32,14 @@ use Rattle.model.proofs.Leaving.{request-leaves}
 use Rattle.storing.proofs.Valid.{put-valid}
 use Rattle.application.specs.Calls.{storeLeft, restored}
 use Rattle.application.proofs.Valid.{store-valid, restore-valid as taken-in-valid}
-use Rattle.writing.proofs.Preparing.{granted-fits}
-use Rattle.attribute_server.specs.Admission.{admissionBy, admission, isBadBuffer, leftIf}
+use Rattle.preparing.proofs.Preparing.{granted-fits}
+use Rattle.admission.specs.Admission.{admissionBy, admission, isBadBuffer, leftIf}
 use Rattle.attribute_server.specs.Connection.{connectLeft, disconnectLeft}
 use Rattle.attribute_server.specs.Request.{Query, seenOf, waitingBy, processLeft, processWaits}
 use Rattle.attribute_server.specs.Value.{setLeft}
 use Rattle.attribute_server.specs.Table.{restoredLeft}
-use Rattle.attribute_server.proofs.Admitting.{Admitted, with-record, without-record}
+use Rattle.admission.proofs.Admitting.{Admitted}
+use Rattle.attribute_server.proofs.Admitting.{with-record, without-record}
 
 -- what holds before a call, and after one that is let in, holds after every call
 pub keeps : {A B : Type 0} (v b p : Bool) (P : A → B → Type 0) (x x′ : A) (y y′ : B) → P x y → (Admitted v b p → P x′ y′) → P (leftIf (admissionBy v b p) x x′) (leftIf (admissionBy v b p) y y′)
@@ -59,10 +61,10 @@ module _ (s : State) (v : valid s ≡ true) (records : (i : ℕ) → i < length 
   let-in-valid s′ f = keeps-one (valid s) false (isBad who) (λ x. valid x ≡ true) s s′ v (λ a. f (a .peer))
 
   pub connect-valid : valid (connectLeft s who) ≡ true
-  connect-valid = let-in-valid (moved s (connecting (s .row) who)) (connected-valid s v sized who)
+  connect-valid = let-in-valid (afterMove s (connecting (s .row) who)) (connected-valid s v sized who)
 
   pub disconnect-valid : (bonded : Bool) → valid (disconnectLeft s who bonded) ≡ true
-  disconnect-valid bonded = let-in-valid (moved s (leaving (s .row) who bonded)) (λ g. parted-valid s v sized who bonded)
+  disconnect-valid bonded = let-in-valid (afterMove s (leaving (s .row) who bonded)) (λ g. parted-valid s v sized who bonded)
 
   pub restore-valid : (saved : List ℕ) → valid (restoredLeft s who saved) ≡ true
   restore-valid saved =

@@ -5,8 +5,8 @@ use Rattle.table_view.specs.Told.{Told, done, refused}
 use Rattle.peers.specs.Slots.{connecting, leaving}
 use Rattle.peers.specs.declared.Identity.{Identity}
 use Rattle.peers.specs.declared.Move.{Move}
-use Rattle.state.specs.State.{State, moved}
-use Rattle.attribute_server.specs.Admission.{admission, toldIf, leftIf}
+use Rattle.state.specs.State.{State, afterMove}
+use Rattle.admission.specs.Admission.{admission, toldIf, leftIf}
 
 -- a move that puts no slot anywhere in a row of n
 abbrev pub noMove : ℕ → Move → Move
@@ -18,7 +18,7 @@ module _ (s : State) (who : Identity) (m : Move) where
   moveTold = toldIf (admission s who) (cond (m .full) (refused 7) done)
 
   abbrev pub moveLeft : State
-  moveLeft = leftIf (admission s who) s (moved s m)
+  moveLeft = leftIf (admission s who) s (afterMove s m)
 
 module _ (s : State) (who : Identity) where
   abbrev pub connectTold : Told

@@ -1,4 +1,3 @@
-pub mod Admission
 pub mod Connection
 pub mod Request
 pub mod Value

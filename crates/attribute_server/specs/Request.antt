@@ -1,4 +1,5 @@
--- `process`: what a request tells, and what stands after it (document 01, "Handlers" and "Refusals of a call"). Assumes nothing.
+-- `process`: what a request tells, and what stands after it (document 01, "Handlers" and "Refusals of a call"). Assumes
+-- nothing.
 use Prim.Native.Nat.{ℕ}
 use mathlib.Core.Path.{_≡_}
 use mathlib.Core.List.{List}
@@ -16,8 +17,8 @@ use Rattle.model.specs.Told.{Answered}
 use Rattle.model.specs.Change.{stateBy, recordBy, dataBy}
 use Rattle.model.specs.declared.Answer.{Answer}
 use Rattle.model.specs.declared.Request.{Request}
-use Rattle.attribute_server.specs.Admission.{admissionBy, isBadBuffer, toldIf, leftIf}
-use Rattle.attribute_server.specs.declared.Admission.{Admission}
+use Rattle.admission.specs.Admission.{admissionBy, isBadBuffer, toldIf, leftIf}
+use Rattle.admission.specs.declared.Admission.{Admission}
 
 -- a request: who asks, over which link, what, and the bytes that it brings
 pub record Query : Type 0 where

@@ -6,7 +6,7 @@ use Rattle.peers.specs.declared.Identity.{Identity}
 use Rattle.state.specs.State.{State}
 use Rattle.model.specs.View.{ownTable}
 use Rattle.application.specs.Calls.{isSubscribed}
-use Rattle.attribute_server.specs.Admission.{admission, toldIf}
+use Rattle.admission.specs.Admission.{admission, toldIf}
 
 abbrev pub subscribedTold : State → Identity → ℕ → ℕ → Told
 subscribedTold s who h bit =

@@ -6,7 +6,7 @@ use Rattle.peers.specs.Slots.{slotOf}
 use Rattle.peers.specs.declared.Identity.{Identity}
 use Rattle.state.specs.State.{State, withTables}
 use Rattle.application.specs.Calls.{tableTold, restoreTold, restored}
-use Rattle.attribute_server.specs.Admission.{admission, toldIf, leftIf}
+use Rattle.admission.specs.Admission.{admission, toldIf, leftIf}
 
 module _ (s : State) (who : Identity) where
   abbrev pub fetchedTold : Told

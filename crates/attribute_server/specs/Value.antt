@@ -11,7 +11,7 @@ use Rattle.peers.specs.declared.Identity.{Identity}
 use Rattle.state.specs.State.{State}
 use Rattle.model.specs.View.{ownTable}
 use Rattle.application.specs.Calls.{fetchTold, storeTold, storeLeft}
-use Rattle.attribute_server.specs.Admission.{admission, toldIf, leftIf}
+use Rattle.admission.specs.Admission.{admission, toldIf, leftIf}
 
 module _ (s : State) (who : Identity) where
   abbrev pub getTold : ℕ → ℕ → Told

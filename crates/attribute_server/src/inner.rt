@@ -6,10 +6,10 @@ ghost use Prim.Native.Nat.{_<_};
 ghost use lib.ListN.{length};
 ghost use Rattle.state.specs.State.{lent};
 ghost use Rattle.model.specs.Told.{toldAnswer};
-ghost use Rattle.attribute_server.specs.Admission.{admission, leftIf};
+ghost use Rattle.admission.specs.Admission.{admission, leftIf};
 ghost use Rattle.attribute_server.specs.Connection.{moveTold, moveLeft, noMove};
-use crate::Admission;
-use crate::refusal;
+use admission::Admission;
+use admission::admit;
 use model::Answer;
 use peers::Identity;
 use peers::Move;
@@ -38,7 +38,7 @@ pub fn act(
         × (r .m ≡ leftIf (admission s who) (noMove (length (now (row .entry))) m) m)
         × (now (tables .exit) ≡ moveLeft s who m .tables) ⌝ }
 {
-    if let Admission::No(a) = refusal::admit(list, store, row, tables, who) {
+    if let Admission::No(a) = admit(list, store, row, tables, who) {
         let slot = m.slot;
         let none = Move {
             place: row.len(),

@@ -5,20 +5,20 @@ ghost use Rattle.peers.specs.Slots.{slotOf};
 ghost use Rattle.state.specs.State.{lent, waiting};
 ghost use Rattle.requests.specs.Slot.{givenSlot};
 ghost use Rattle.attribute_server.specs.Request.{query, Processed};
-use crate::Admission;
-use crate::refusal;
+use admission::Admission;
+use admission::admit_request;
 use attribute::Link;
 use model::Request;
 use peers::Identity;
 use peers::Want;
+use preparing::Changed;
+use preparing::inner::with_record;
 use state::Prepared;
 use wire::Found;
 use wire::sizes::PreparedBytes;
 use wire::sizes::Record;
 use wire::sizes::SlotBytes;
 use wire::sizes::Table;
-use writing::Changed;
-use writing::inner::with_record;
 
 // The peer's slot, where the request needs it: most that only discover do not.
 fn slot_for(row: &[SlotBytes], who: Identity, rq: Request) -> Found
@@ -30,7 +30,8 @@ fn slot_for(row: &[SlotBytes], who: Identity, rq: Request) -> Found
     peers::inner::first(row, who, Want::Own)
 }
 
-// Answers a request of a peer over its link: d are the bytes that it brings, `bytes` those of the link's prepared write, `out` is for the response.
+// Answers a request of a peer over its link: d are the bytes that it brings, `bytes` those of the link's prepared
+// write, `out` is for the response.
 pub fn process(
     list: &mut [Record],
     store: &mut [u8],
@@ -50,7 +51,7 @@ pub fn process(
         (r .answer) (lent (now (list .exit)) (now (store .exit)) (now (row .entry)) (now (tables .exit)))
         (waiting (r .prepared) (now (bytes .exit))) (now (out .exit)) ⌝ }
 {
-    if let Admission::No(a) = refusal::admit_request(
+    if let Admission::No(a) = admit_request(
         list,
         store,
         row,

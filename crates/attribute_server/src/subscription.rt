@@ -5,8 +5,8 @@ ghost use Prim.Native.Nat.{_<_};
 ghost use Rattle.state.specs.State.{lent};
 ghost use Rattle.model.specs.Told.{toldAnswer};
 ghost use Rattle.attribute_server.specs.Subscription.{subscribedTold};
-use crate::Admission;
-use crate::refusal;
+use admission::Admission;
+use admission::admit;
 use model::Answer;
 use peers::Identity;
 use peers::Want;
@@ -28,7 +28,7 @@ fn subscribed(
     ensures { λ r. let s = lent (now (list .entry)) (now (store .entry)) (now (row .entry)) (now (tables .entry)) in
         ⌜ toldAnswer [] r ≡ subscribedTold s who handle bit ⌝ }
 {
-    if let Admission::No(a) = refusal::admit(list, store, row, tables, who) {
+    if let Admission::No(a) = admit(list, store, row, tables, who) {
         return a;
     }
     let slot = peers::inner::first(row, who, Want::Own);

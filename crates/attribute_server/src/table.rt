@@ -4,8 +4,8 @@ ghost use mathlib.Core.List.{[]};
 ghost use Rattle.state.specs.State.{lent};
 ghost use Rattle.model.specs.Told.{toldAnswer, Answered};
 ghost use Rattle.attribute_server.specs.Table.{fetchedTold, restoredTold, restoredLeft};
-use crate::Admission;
-use crate::refusal;
+use admission::Admission;
+use admission::admit;
 use model::Answer;
 use peers::Identity;
 use peers::Want;
@@ -25,7 +25,7 @@ pub fn get_client_att_table(
     ensures { λ r. let s = lent (now (list .entry)) (now (store .entry)) (now (row .entry)) (now (tables .entry)) in
         ⌜ Answered (now (out .entry)) (now (out .exit)) r (fetchedTold s who) ⌝ }
 {
-    if let Admission::No(a) = refusal::admit(list, store, row, tables, who) {
+    if let Admission::No(a) = admit(list, store, row, tables, who) {
         return a;
     }
     let slot = peers::inner::first(row, who, Want::Own);
@@ -45,7 +45,7 @@ pub fn set_client_att_table(
         ⌜ (toldAnswer [] r ≡ restoredTold s who (now (saved .entry)))
         × (lent (now (list .entry)) (now (store .entry)) (now (row .entry)) (now (tables .exit)) ≡ restoredLeft s who (now (saved .entry))) ⌝ }
 {
-    if let Admission::No(a) = refusal::admit(list, store, row, tables, who) {
+    if let Admission::No(a) = admit(list, store, row, tables, who) {
         return a;
     }
     let slot = peers::inner::first(row, who, Want::Own);

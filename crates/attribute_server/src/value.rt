@@ -6,8 +6,8 @@ ghost use Rattle.attribute.specs.declared.Wish.the-variants.{Read, Write};
 ghost use Rattle.state.specs.State.{lent};
 ghost use Rattle.model.specs.Told.{toldAnswer, Answered};
 ghost use Rattle.attribute_server.specs.Value.{getTold, setTold, setLeft, canTold};
-use crate::Admission;
-use crate::refusal;
+use admission::Admission;
+use admission::admit;
 use attribute::Link;
 use attribute::Wish;
 use model::Answer;
@@ -30,7 +30,7 @@ pub fn get(
     ensures { λ r. let s = lent (now (list .entry)) (now (store .entry)) (now (row .entry)) (now (tables .entry)) in
         ⌜ Answered (now (out .entry)) (now (out .exit)) r (getTold s who handle (length (now (out .entry)))) ⌝ }
 {
-    if let Admission::No(a) = refusal::admit(list, store, row, tables, who) {
+    if let Admission::No(a) = admit(list, store, row, tables, who) {
         return a;
     }
     let slot = peers::inner::first(row, who, Want::Own);
@@ -51,7 +51,7 @@ pub fn set(
         ⌜ (toldAnswer [] r ≡ setTold s who handle (length (now (d .entry))))
         × (lent (now (list .exit)) (now (store .exit)) (now (row .entry)) (now (tables .exit)) ≡ setLeft s who handle (now (d .entry))) ⌝ }
 {
-    if let Admission::No(a) = refusal::admit(list, store, row, tables, who) {
+    if let Admission::No(a) = admit(list, store, row, tables, who) {
         return a;
     }
     let slot = peers::inner::first(row, who, Want::Own);
@@ -72,7 +72,7 @@ fn can(
     ensures { λ r. let s = lent (now (list .entry)) (now (store .entry)) (now (row .entry)) (now (tables .entry)) in
         ⌜ toldAnswer [] r ≡ canTold s who wish link handle ⌝ }
 {
-    if let Admission::No(a) = refusal::admit(list, store, row, tables, who) {
+    if let Admission::No(a) = admit(list, store, row, tables, who) {
         return a;
     }
     application::inner::accessed(attribute::needs::can(list, link, handle, wish))

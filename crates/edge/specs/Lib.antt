@@ -1,3 +1,1 @@
-pub mod Reply
-pub mod Asked
 pub mod Served

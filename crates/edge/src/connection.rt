@@ -2,10 +2,10 @@
 ghost use mathlib.Core.Path.{_≡_};
 ghost use Rattle.state.specs.State.{lent};
 ghost use Rattle.attribute_server.specs.Connection.{connectTold, connectLeft, disconnectTold, disconnectLeft};
-ghost use Rattle.edge.specs.Reply.{replyTo};
-ghost use Rattle.edge.specs.Asked.{isSet};
-use crate::Reply;
-use crate::number;
+ghost use Rattle.numbers.specs.Reply.{replyTo};
+ghost use Rattle.numbers.specs.Request.{isSet};
+use numbers::Reply;
+use numbers::answer;
 use peers::Identity;
 use wire::sizes::Record;
 use wire::sizes::SlotBytes;
@@ -24,7 +24,7 @@ pub fn connect(
         × (lent (now (list .entry)) (now (store .entry)) (now (row .exit)) (now (tables .exit)) ≡ connectLeft s who) ⌝ }
 {
     let a = attribute_server::connection::connect(list, store, row, tables, who);
-    number::reply(a)
+    answer::reply(a)
 }
 
 // A peer leaves: bonded by any byte but 0.
@@ -42,5 +42,5 @@ pub fn disconnect(
 {
     let keep = bonded != 0;
     let a = attribute_server::connection::disconnect(list, store, row, tables, who, keep);
-    number::reply(a)
+    answer::reply(a)
 }

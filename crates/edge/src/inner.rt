@@ -1,15 +1,16 @@
-// Coming and going where the row is lent as slots: the caller has loaded it and walked it, and stores the one slot that changes.
+// Coming and going where the row is lent as slots: the caller has loaded it and walked it, and stores the one slot that
+// changes.
 ghost use mathlib.Core.Path.{_≡_};
 ghost use lib.ListN.{set};
 ghost use Rattle.peers.specs.Slots.{walk, slotOf};
 ghost use Rattle.peers.specs.declared.Want.the-variants.{Usable, Free};
 ghost use Rattle.state.specs.State.{state};
 ghost use Rattle.attribute_server.specs.Connection.{connectTold, connectLeft, disconnectTold, disconnectLeft};
-ghost use Rattle.edge.specs.Reply.{replyTo, replyOf};
-ghost use Rattle.edge.specs.Asked.{isSet};
-use crate::Reply;
-use crate::number;
+ghost use Rattle.numbers.specs.Reply.{replyTo, replyOf};
+ghost use Rattle.numbers.specs.Request.{isSet};
 use attribute_server::inner::Joining;
+use numbers::Reply;
+use numbers::answer;
 use peers::Identity;
 use peers::Slot;
 use wire::Found;
@@ -31,7 +32,7 @@ fn numbered(o: Joining) -> Joined
     let m = o.m;
     let slot = m.slot;
     Joined {
-        reply: number::reply(a),
+        reply: answer::reply(a),
         place: m.place,
         slot,
     }

@@ -1,29 +1,9 @@
-// The server's calls in plain numbers, as a boundary to C and Rust can carry them: answers as one small struct, links and requests by number. The
-// prepared write still goes by value; the crate `hub` lends it.
+// The server's calls in plain numbers, as a boundary to C and Rust can carry them: the crate `numbers` says which.
+// The prepared write still goes by value; the crate `ropethatch` lends it.
 pub mod connection;
 pub mod inner;
-pub mod number;
 pub mod opening;
 pub mod request;
 pub mod subscription;
 pub mod table;
 pub mod value;
-
-// What a call answers. Status 0: done, or yes. 1: nothing, or no. 2: a value or a response, whose `len` bytes stand at the buffer's start. 3: the ATT code
-// `code`. 4: refused, by the number `code`. What a status does not name is 0.
-#[repr(C)]
-pub struct Reply {
-    pub status: u8,
-    pub code: u8,
-    pub len: usize,
-}
-
-// A request: its ATT opcode, and its numbers. `handle` is a handle, or a range's start; `other` a range's end, an offset, the flags, or the MTU; `uuid` the type of
-// Find By Type Value.
-#[repr(C)]
-pub struct Asked {
-    pub op: u8,
-    pub handle: u16,
-    pub other: u16,
-    pub uuid: u16,
-}

@@ -2,9 +2,9 @@
 ghost use mathlib.Core.Path.{_≡_};
 ghost use Rattle.state.specs.State.{lent};
 ghost use Rattle.state.specs.Fresh.{newTold, newLeft};
-ghost use Rattle.edge.specs.Reply.{replyTo};
-use crate::Reply;
-use crate::number::refused;
+ghost use Rattle.numbers.specs.Reply.{replyTo};
+use numbers::Reply;
+use numbers::answer::refused;
 use state::Opened;
 use wire::sizes::Record;
 use wire::sizes::SlotBytes;

@@ -1,11 +1,12 @@
 // Requests.
 ghost use Rattle.state.specs.State.{lent, waiting};
 ghost use Rattle.attribute_server.specs.Request.{query};
-ghost use Rattle.edge.specs.Asked.{linkOf, requestOf};
+ghost use Rattle.numbers.specs.Request.{linkOf, requestOf};
 ghost use Rattle.edge.specs.Served.{Served};
-use crate::Asked;
-use crate::Reply;
-use crate::number;
+use numbers::Reply;
+use numbers::RequestNumbers;
+use numbers::answer;
+use numbers::request;
 use peers::Identity;
 use state::Prepared;
 use wire::sizes::PreparedBytes;
@@ -29,7 +30,7 @@ pub fn process(
     level: u8,
     p: Prepared,
     bytes: &mut PreparedBytes,
-    q: Asked,
+    q: RequestNumbers,
     d: &[u8],
     out: &mut [u8],
 ) -> Serving
@@ -38,8 +39,8 @@ pub fn process(
         (r .reply) (lent (now (list .exit)) (now (store .exit)) (now (row .entry)) (now (tables .exit)))
         (waiting (r .next) (now (bytes .exit))) (now (out .exit)) ⌝ }
 {
-    let link = number::link(level);
-    let rq = number::request(q);
+    let link = request::link(level);
+    let rq = request::request(q);
     let c = attribute_server::request::process(
         list,
         store,
@@ -56,7 +57,7 @@ pub fn process(
     let next = c.prepared;
     let a = c.answer;
     Serving {
-        reply: number::reply(a),
+        reply: answer::reply(a),
         next,
     }
 }

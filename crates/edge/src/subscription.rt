@@ -2,9 +2,9 @@
 ghost use mathlib.Core.Path.{_≡_};
 ghost use Rattle.state.specs.State.{lent};
 ghost use Rattle.attribute_server.specs.Subscription.{subscribedTold};
-ghost use Rattle.edge.specs.Reply.{replyTo};
-use crate::Reply;
-use crate::number;
+ghost use Rattle.numbers.specs.Reply.{replyTo};
+use numbers::Reply;
+use numbers::answer;
 use peers::Identity;
 use wire::sizes::Record;
 use wire::sizes::SlotBytes;
@@ -23,7 +23,7 @@ pub fn should_notify(
         ⌜ r ≡ replyTo (subscribedTold s who handle 1) ⌝ }
 {
     let a = attribute_server::subscription::should_notify(list, store, row, tables, who, handle);
-    number::reply(a)
+    answer::reply(a)
 }
 
 // To indications.
@@ -39,5 +39,5 @@ pub fn should_indicate(
         ⌜ r ≡ replyTo (subscribedTold s who handle 2) ⌝ }
 {
     let a = attribute_server::subscription::should_indicate(list, store, row, tables, who, handle);
-    number::reply(a)
+    answer::reply(a)
 }

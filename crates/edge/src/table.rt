@@ -2,10 +2,10 @@
 ghost use mathlib.Core.Path.{_≡_};
 ghost use Rattle.state.specs.State.{lent};
 ghost use Rattle.attribute_server.specs.Table.{fetchedTold, restoredTold, restoredLeft};
-ghost use Rattle.edge.specs.Reply.{replyTo};
-ghost use Rattle.edge.specs.Served.{Copied};
-use crate::Reply;
-use crate::number;
+ghost use Rattle.numbers.specs.Reply.{replyTo};
+ghost use Rattle.edge.specs.Served.{Delivered};
+use numbers::Reply;
+use numbers::answer;
 use peers::Identity;
 use wire::sizes::Record;
 use wire::sizes::SlotBytes;
@@ -21,10 +21,10 @@ pub fn get_client_att_table(
     out: &mut Table,
 ) -> Reply
     ensures { λ r. let s = lent (now (list .entry)) (now (store .entry)) (now (row .entry)) (now (tables .entry)) in
-        ⌜ Copied (now (out .entry)) (now (out .exit)) r (fetchedTold s who) ⌝ }
+        ⌜ Delivered (now (out .entry)) (now (out .exit)) r (fetchedTold s who) ⌝ }
 {
     let a = attribute_server::table::get_client_att_table(list, store, row, tables, who, out);
-    number::reply(a)
+    answer::reply(a)
 }
 
 // Puts a saved table's values into the peer's slot.
@@ -41,5 +41,5 @@ pub fn set_client_att_table(
         × (lent (now (list .entry)) (now (store .entry)) (now (row .entry)) (now (tables .exit)) ≡ restoredLeft s who (now (saved .entry))) ⌝ }
 {
     let a = attribute_server::table::set_client_att_table(list, store, row, tables, who, saved);
-    number::reply(a)
+    answer::reply(a)
 }

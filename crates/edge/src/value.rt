@@ -4,11 +4,12 @@ ghost use lib.ListN.{length};
 ghost use Rattle.attribute.specs.declared.Wish.the-variants.{Read, Write};
 ghost use Rattle.state.specs.State.{lent};
 ghost use Rattle.attribute_server.specs.Value.{getTold, setTold, setLeft, canTold};
-ghost use Rattle.edge.specs.Reply.{replyTo};
-ghost use Rattle.edge.specs.Asked.{linkOf};
-ghost use Rattle.edge.specs.Served.{Copied};
-use crate::Reply;
-use crate::number;
+ghost use Rattle.numbers.specs.Reply.{replyTo};
+ghost use Rattle.numbers.specs.Request.{linkOf};
+ghost use Rattle.edge.specs.Served.{Delivered};
+use numbers::Reply;
+use numbers::answer;
+use numbers::request;
 use peers::Identity;
 use wire::sizes::Record;
 use wire::sizes::SlotBytes;
@@ -25,10 +26,10 @@ pub fn get(
     out: &mut [u8],
 ) -> Reply
     ensures { λ r. let s = lent (now (list .entry)) (now (store .entry)) (now (row .entry)) (now (tables .entry)) in
-        ⌜ Copied (now (out .entry)) (now (out .exit)) r (getTold s who handle (length (now (out .entry)))) ⌝ }
+        ⌜ Delivered (now (out .entry)) (now (out .exit)) r (getTold s who handle (length (now (out .entry)))) ⌝ }
 {
     let a = attribute_server::value::get(list, store, row, tables, who, handle, out);
-    number::reply(a)
+    answer::reply(a)
 }
 
 // Sets the value under a handle: a shared one, or the peer's own.
@@ -46,7 +47,7 @@ pub fn set(
         × (lent (now (list .exit)) (now (store .exit)) (now (row .entry)) (now (tables .exit)) ≡ setLeft s who handle (now (d .entry))) ⌝ }
 {
     let a = attribute_server::value::set(list, store, row, tables, who, handle, d);
-    number::reply(a)
+    answer::reply(a)
 }
 
 // Whether a link may read what stands under a handle.
@@ -62,9 +63,9 @@ pub fn can_read(
     ensures { λ r. let s = lent (now (list .entry)) (now (store .entry)) (now (row .entry)) (now (tables .entry)) in
         ⌜ r ≡ replyTo (canTold s who Read (linkOf level) handle) ⌝ }
 {
-    let link = number::link(level);
+    let link = request::link(level);
     let a = attribute_server::value::can_read(list, store, row, tables, who, link, handle);
-    number::reply(a)
+    answer::reply(a)
 }
 
 // Whether it may write there.
@@ -80,7 +81,7 @@ pub fn can_write(
     ensures { λ r. let s = lent (now (list .entry)) (now (store .entry)) (now (row .entry)) (now (tables .entry)) in
         ⌜ r ≡ replyTo (canTold s who Write (linkOf level) handle) ⌝ }
 {
-    let link = number::link(level);
+    let link = request::link(level);
     let a = attribute_server::value::can_write(list, store, row, tables, who, link, handle);
-    number::reply(a)
+    answer::reply(a)
 }

@@ -1,6 +1,8 @@
--- One memory: a slot that lies at a place, at any share, is eight bytes that lie there, and any eight bytes there are the slot that they decode to. So of a row: whoever holds a lent row of slots holds the row of its bytes.
+-- One memory: a slot that lies at a place, at any share, is eight bytes that lie there, and any eight bytes there are
+-- the slot that they decode to. So of a row: whoever holds a lent row of slots holds the row of its bytes.
 -- The way back takes any bytes, so a callee may have changed them (`slot-is-bytes`, `row-is-bytes`).
--- The places are the ones that Rattle's memory has: kind at 0, address from 1 on, connected at 7, and the next slot at 8. Assumes `Given`.
+-- The places are the ones that Rattle's memory has: kind at 0, address from 1 on, connected at 7, and the next slot at
+-- 8. Assumes `Given`.
 use mathlib.Core.Path.{_≡_, refl, sym, _∙_, ap}
 use Prim.Native.Nat.{ℕ, zero, suc, _+_, _<_}
 use native.Mathlib.Nat.{add-zero, zero-add, suc-add}
@@ -51,18 +53,18 @@ more [] ys = sym (zero-add (length ys))
 more (x ∷ xs) ys = ap suc (more xs ys) ∙ sym (suc-add (length xs) (length ys))
 
 -- a slot's bytes as they lie
-abbrev pub laid : Slot → List ℕ
-laid s = s .id .kind ∷ s .id .addr ++ (s .connected ∷ [])
+abbrev pub slotLaid : Slot → List ℕ
+slotLaid s = s .id .kind ∷ s .id .addr ++ (s .connected ∷ [])
 
 -- eight bytes are those of the slot that they are
 single : (x : List ℕ) → length x ≡ 8 → (i : ℕ) → i < 1 → length (getD (x ∷ []) i []) ≡ 8
 single x h zero l = h
 single x h (suc i) l = absurd (omega arith)
 
-pub same-bytes : (e : List ℕ) → length e ≡ 8 → laid (slotIn e) ≡ e
+pub same-bytes : (e : List ℕ) → length e ≡ 8 → slotLaid (slotIn e) ≡ e
 same-bytes e len =
     head-eq-of-cons-eq
-    (one-row (laid (slotIn e) ∷ []) (e ∷ []) (single (laid (slotIn e)) refl) (single e len) (ap (λ (s : Slot). s ∷ []) (decoded (slotIn e) refl)))
+    (one-row (slotLaid (slotIn e) ∷ []) (e ∷ []) (single (slotLaid (slotIn e)) refl) (single e len) (ap (λ (s : Slot). s ∷ []) (decoded (slotIn e) refl)))
 
 module _ {M : Type 1} (𝓤 : URA M) (H : Heap 𝓤) (A : Atoms 𝓤) (W : Given 𝓤 H A) (q : Share) (b : ℕ) where
   abbrev ⟦_⟧ : Fml → SProp 𝓤
@@ -122,7 +124,7 @@ module _ {M : Type 1} (𝓤 : URA M) (H : Heap 𝓤) (A : Atoms 𝓤) (W : Given
   abbrev pub SlotBack : ℕ → SProp 𝓤
   SlotBack o = all 𝓤 (λ (e : List ℕ). wand 𝓤 ⟦ partAt (Array u8 8) q e b o ⟧ ⟦ partAt S.the-row q (slotIn e) b o ⟧)
 
-  pub slot-is-bytes : (s : Slot) (o : ℕ) → ent 𝓤 ⟦ partAt S.the-row q s b o ⟧ (sep 𝓤 ⟦ partAt (Array u8 8) q (laid s) b o ⟧ (SlotBack o))
+  pub slot-is-bytes : (s : Slot) (o : ℕ) → ent 𝓤 ⟦ partAt S.the-row q s b o ⟧ (sep 𝓤 ⟦ partAt (Array u8 8) q (slotLaid s) b o ⟧ (SlotBack o))
   slot-is-bytes s o =
       qed W (‵ (partAt S.the-row q s b o) ∷ []) ∵ use1 W (‵ (partsAt q slot-members 0 (S.the-type .to s) b o) ⊛ raw (PartsBack 𝓤 H A q (S.the-type .name) slot-members b o)) (slot-apart s o) $ split ! $ fsplit ! $
       rewrite ! 0 (λ (p : ℕ). ‵ (partAt (I.the-field .row) q (I.the-type .to (s .id)) b p)) (add-zero o) refl $
@@ -132,10 +134,10 @@ module _ {M : Type 1} (𝓤 : URA M) (H : Heap 𝓤) (A : Atoms 𝓤) (W : Given
       use1 W (‵ (arr-parts (shares u8) 6 .part q (map (λ (x : ℕ). x) (s .id .addr)) b (o + 1))) (array-apart 𝓤 H A W u8 q tt 6 (map (λ (x : ℕ). x) (s .id .addr)) b (o + 1)) $ fsplit ! $ feqL ! (λ len.
       let six : length (s .id .addr) ≡ 6 = sym (ap length (same-map (s .id .addr))) ∙ len in
       let last : o + 7 ≡ (o + 1) + length (s .id .addr) = omega (arith, six) in
-      let eight : length (laid s) ≡ 8 = ap suc (more (s .id .addr) (s .connected ∷ [])) ∙ omega (arith, six) in
+      let eight : length (slotLaid s) ≡ 8 = ap suc (more (s .id .addr) (s .connected ∷ [])) ∙ omega (arith, six) in
       rewrite ! 0 (λ (xs : List ℕ). ‵ (run xs (o + 1))) (same-map (s .id .addr)) refl $ move ! (4 ∷ []) $ fsplit ! $ rewrite ! 0 (λ (p : ℕ). ‵ (partAt u8 q (s .connected) b p)) last refl $
       move ! (2 ∷ 0 ∷ []) $ use2 W (‵ (run (s .id .addr ++ (s .connected ∷ [])) (o + 1))) (snoc (s .id .addr) (s .connected) (o + 1)) $ move ! (3 ∷ 0 ∷ []) $ fjoin ! $
-      feqI ! ℕ (length (laid s)) 8 eight $ fjoin ! $ use1 W (‵ (partAt (Array u8 8) q (laid s) b o)) (array-whole 𝓤 H A W u8 q 8 (laid s) b o) $ frame ! $
+      feqI ! ℕ (length (slotLaid s)) 8 eight $ fjoin ! $ use1 W (‵ (partAt (Array u8 8) q (slotLaid s) b o)) (array-whole 𝓤 H A W u8 q 8 (slotLaid s) b o) $ frame ! $
       -- [true; true; the identity's way back; the slot's]
       drop ! $ drop ! $ each ! (λ (e : List ℕ). wand 𝓤 ⟦ partAt (Array u8 8) q e b o ⟧ ⟦ partAt S.the-row q (slotIn e) b o ⟧) (λ e. assume {P = ⟦ partAt S.the-row q (slotIn e) b o ⟧} ! (‵ (partAt (Array u8 8) q e b o)) $ by ! (slot-back e o)))
 
@@ -158,12 +160,12 @@ module _ {M : Type 1} (𝓤 : URA M) (H : Heap 𝓤) (A : Atoms 𝓤) (W : Given
       move ! (2 ∷ 0 ∷ []) $ feqI ! ℕ (length es) n k $ fjoin ! $ use2 W (‵ (row S.the-row q (rowOf es) b (o + 8))) (apply∗ 𝓤 ⟦ arr-parts (shares (Array u8 8)) n .part q es b (o + 8) ⟧ ⟦ row S.the-row q (rowOf es) b (o + 8) ⟧) $
       move ! (1 ∷ 0 ∷ []) $ fjoin ! $ done !
 
-  pub row-is-bytes : (ys : List Slot) (o : ℕ) → ent 𝓤 ⟦ row S.the-row q ys b o ⟧ (sep 𝓤 ⟦ row (Array u8 8) q (map laid ys) b o ⟧ (RowBack (length ys) o))
+  pub row-is-bytes : (ys : List Slot) (o : ℕ) → ent 𝓤 ⟦ row S.the-row q ys b o ⟧ (sep 𝓤 ⟦ row (Array u8 8) q (map slotLaid ys) b o ⟧ (RowBack (length ys) o))
   row-is-bytes [] o =
       qed W (‵ (row S.the-row q [] b o) ∷ []) ∵ frame ! $ each ! (λ (es : List (List ℕ)). wand 𝓤 ⟦ arr-parts (shares (Array u8 8)) 0 .part q es b o ⟧ ⟦ row S.the-row q (rowOf es) b o ⟧) (λ es.
       assume {P = ⟦ row S.the-row q (rowOf es) b o ⟧} ! (‵ (arr-parts (shares (Array u8 8)) 0 .part q es b o)) $ fsplit ! $ feqL ! (λ e. by ! (none-back es o e)))
   row-is-bytes (y ∷ ys) o =
-      qed W (‵ (row S.the-row q (y ∷ ys) b o) ∷ []) ∵ fsplit ! $ use1 W (‵ (partAt (Array u8 8) q (laid y) b o) ⊛ raw (SlotBack o)) (slot-is-bytes y o) $ split ! $ move ! (2 ∷ []) $
-      use1 W (‵ (row (Array u8 8) q (map laid ys) b (o + 8)) ⊛ raw (RowBack (length ys) (o + 8))) (row-is-bytes ys (o + 8)) $ split ! $ move ! (2 ∷ 0 ∷ []) $ fjoin ! $ frame ! $ move ! (1 ∷ 0 ∷ []) $
+      qed W (‵ (row S.the-row q (y ∷ ys) b o) ∷ []) ∵ fsplit ! $ use1 W (‵ (partAt (Array u8 8) q (slotLaid y) b o) ⊛ raw (SlotBack o)) (slot-is-bytes y o) $ split ! $ move ! (2 ∷ []) $
+      use1 W (‵ (row (Array u8 8) q (map slotLaid ys) b (o + 8)) ⊛ raw (RowBack (length ys) (o + 8))) (row-is-bytes ys (o + 8)) $ split ! $ move ! (2 ∷ 0 ∷ []) $ fjoin ! $ frame ! $ move ! (1 ∷ 0 ∷ []) $
       each ! (λ (es : List (List ℕ)). wand 𝓤 ⟦ arr-parts (shares (Array u8 8)) (suc (length ys)) .part q es b o ⟧ ⟦ row S.the-row q (rowOf es) b o ⟧) (λ es.
       assume {P = ⟦ row S.the-row q (rowOf es) b o ⟧} ! (‵ (arr-parts (shares (Array u8 8)) (suc (length ys)) .part q es b o)) $ fsplit ! $ feqL ! (λ e. by ! (some-back (length ys) es o e)))

@@ -1,4 +1,5 @@
-// The row of slots, lent as one slice of records: the walk over it where it lies, and the whole of it by value. What connecting and leaving do stands above.
+// The row of slots, lent as one slice of records: the walk over it where it lies, and the whole of it by value. What
+// connecting and leaving do stands above.
 pub mod inner;
 
 ghost use mathlib.Core.Path.{_≡_};

@@ -69,7 +69,8 @@ fn put(line: &mut [u8], n: usize, b: u8) -> usize {
     line.len() + 1
 }
 
-// Reads up to the next line's end. Nothing says that the input has one, so the loop counts down from a number that no run uses up.
+// Reads up to the next line's end. Nothing says that the input has one, so the loop counts down from a number that no
+// run uses up.
 pub fn next(feed: Feed, chunk: &mut [u8], line: &mut [u8]) -> Line {
     let mut f = feed;
     let mut n = 0;

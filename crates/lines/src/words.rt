@@ -1,4 +1,6 @@
 // The words of a line, parted by one space each: two spaces have an empty word between them.
+use crate::number;
+use crate::parts;
 use wire::bytes::same;
 
 // How many words there are.
@@ -66,4 +68,41 @@ pub fn is_call(line: &[u8], name: &[u8], args: usize) -> bool {
         return false;
     }
     count(line) == std::num::wrapping_add_usize(args, 1)
+}
+
+// Which of these words word k of the line is, by its place, the first being 0. For none of them, how many they are.
+pub fn among(line: &[u8], k: usize, names: &[u8]) -> usize {
+    let w = word(line, k);
+    let n = count(names);
+    let mut i = 0;
+    while i < n {
+        if is(names, i, w) {
+            return i;
+        }
+        i += 1;
+    }
+    i
+}
+
+// Which of these calls the line is, by its place. A call is written as its name, a stroke, and the digit that says how
+// many words come after the name: `connect/1 disconnect/2`. For none of them, how many they are.
+pub fn call(line: &[u8], calls: &[u8]) -> usize {
+    let n = count(calls);
+    let mut i = 0;
+    while i < n {
+        if is_written(line, word(calls, i)) {
+            return i;
+        }
+        i += 1;
+    }
+    i
+}
+
+// Whether the line is the call that is written so.
+fn is_written(line: &[u8], call: &[u8]) -> bool {
+    if call.len() < 2 {
+        return false;
+    }
+    let n = call.len() - 2;
+    is_call(line, parts::front(call, n), number::number(&call[n + 1..]))
 }

@@ -1,4 +1,5 @@
--- The loop of a list answer along a stretch of the list, for every test of entries that picks the same records there. Assumes nothing.
+-- The loop of a list answer along a stretch of the list, for every test of entries that picks the same records there.
+-- Assumes nothing.
 use mathlib.Core.Path.{_≡_, refl, _∙_}
 use mathlib.Core.Bool.{Bool, false}
 use mathlib.Core.List.{List, []}
@@ -7,12 +8,13 @@ use native.Mathlib.Omega.{arith}
 use lib.ListN.{length, getD, drop}
 use Rattle.wire.specs.declared.cursor.WriteCursor.{WriteCursor}
 use Rattle.attribute.specs.Record.{Entry, entryOf}
-use Rattle.attribute.specs.Walk.{Picks}
-use Rattle.attribute.specs.declared.Stretch.{Stretch}
+use Rattle.attribute_walk.specs.Walk.{Picks}
+use Rattle.attribute_walk.specs.declared.Stretch.{Stretch}
 use Rattle.model.specs.Run.{Chunk, skip, run, Rowed, TurnBy, Listed}
 use Rattle.model.proofs.Running.{Going, going-start, going-skip, going-more, going-stop, going-rest, row-as, row-room}
 
--- the invariant: the loop has come to place i of the stretch, and goes on with the run of every test that picks what another picks of the records
+-- the invariant: the loop has come to place i of the stretch, and goes on with the run of every test that picks what
+-- another picks of the records
 pub record Along (turn : TurnBy) (test : List ℕ → Bool) (list : List (List ℕ)) (p : Stretch) (old : List ℕ) (from : WriteCursor) (out : List ℕ) (c : WriteCursor) (i : ℕ) : Type 0 where
   pub same : length out ≡ length old
   pub room : c .len ≤ length out

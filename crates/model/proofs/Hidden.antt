@@ -1,5 +1,6 @@
--- What a link may not read, its view does not show: the view is made of the entries, of the values that the link may read, of the lengths of shared values and
--- of the plain list that the peer's own table is; and an entry that can't be read ends a list, without a byte of it. Assumes nothing.
+-- What a link may not read, its view does not show: the view is made of the entries, of the values that the link may
+-- read, of the lengths of shared values and of the plain list that the peer's own table is; and an entry that can't be
+-- read ends a list, without a byte of it. Assumes nothing.
 use mathlib.Core.Path.{_≡_, refl, ap, ap₂}
 use mathlib.Core.Bool.{Bool, true, false, cond}
 use mathlib.Core.List.{List, [], _∷_, map}
@@ -14,7 +15,7 @@ use Rattle.attribute.specs.Needs.{mayRead, mayWrite}
 use Rattle.attribute.specs.declared.Link.{Link}
 use Rattle.attribute.specs.declared.Access.{Access}
 use Rattle.attribute.specs.declared.Access.the-variants.{Granted, Denied}
-use Rattle.model.specs.Value.{Got, Bytes, Code, sharedItem, atValue, readOf, writeRule, itemWrite, writeOf}
+use Rattle.model.specs.Value.{Contents, Bytes, Code, sharedItem, atValue, readOf, writeRule, itemWrite, writeOf}
 use Rattle.model.specs.View.{Seen, ifMet, seenBy, seenAll}
 use Rattle.model.specs.Run.{stop}
 use Rattle.model.specs.Rows.{valueTurn, rowTurn}
@@ -42,7 +43,7 @@ module _ (link : Link) (r : List ℕ) (s s′ t t′ : List ℕ) (own : view t �
     pub value : mayRead (attributeOf r) link ≡ Granted → attributeOf r .client ≡ false → sharedItem s (attributeOf r) ≡ sharedItem s′ (attributeOf r)
     pub size : attributeOf r .client ≡ false → length (sharedItem s (attributeOf r) .value) ≡ length (sharedItem s′ (attributeOf r) .value)
 
-  met-same : (a : Access) (x y : Got) → (a ≡ Granted → x ≡ y) → ifMet a x Code ≡ ifMet a y Code
+  met-same : (a : Access) (x y : Contents) → (a ≡ Granted → x ≡ y) → ifMet a x Code ≡ ifMet a y Code
   met-same Granted x y h = h refl
   met-same (Denied c) x y h = refl
 

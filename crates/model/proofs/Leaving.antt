@@ -1,5 +1,5 @@
--- What a request leaves of a state: all as it was, or a value put at a listed place whose need the link meets. Said of two hubs with one list and one row,
--- side by side; one hub stands beside itself. Assumes nothing.
+-- What a request leaves of a state: all as it was, or a value put at a listed place whose need the link meets. Said of
+-- two hubs with one list and one row, side by side; one hub stands beside itself. Assumes nothing.
 use mathlib.Core.Path.{_≡_, refl}
 use mathlib.Core.Bool.{Bool, true, false, cond}
 use mathlib.Core.List.{List, []}

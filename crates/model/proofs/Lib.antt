@@ -1,4 +1,5 @@
 pub mod Running
+pub mod Writes
 pub mod Along
 pub mod Sending
 pub mod Looking

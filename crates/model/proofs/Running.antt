@@ -15,9 +15,10 @@ use Rattle.wire.specs.declared.cursor.WriteCursor.{WriteCursor}
 use Rattle.wire.proofs.Sets.{sets-append}
 use Rattle.wire.proofs.Walk.{placed, none-passes}
 use Rattle.wire.proofs.Written.{wrote-length, wrote-none}
-use Rattle.model.specs.Run.{Chunk, stop, skip, put, run, fromFirst, Rowed}
+use Rattle.model.specs.Run.{Chunk, stop, skip, emit, run, fromFirst, Rowed}
 
--- the invariant of a list answer's loop: what is still to be written, written, gives what the whole run, written from the first cursor on, gives
+-- the invariant of a list answer's loop: what is still to be written, written, gives what the whole run, written from
+-- the first cursor on, gives
 pub record Going {A : Type 0} (turn : A → List A → ℕ → Chunk) (l : List A) (old : List ℕ) (from : WriteCursor) (whole out : List ℕ) (c : WriteCursor) (i : ℕ) : Type 0 where
   pub place : i ≤ length l
   pub size : length out ≡ length old
@@ -129,7 +130,7 @@ run-map g turn (x ∷ l) room =
 pub row-stopped : (out : List ℕ) (c : WriteCursor) (k : Chunk) → c .len ≤ length out → stop ≡ k → Rowed out out c c k
 row-stopped out c k h e = rw (← e) (record { more = le-ltb (c .len) (c .len) (omega arith); wrote = wrote-none out c h })
 
-pub row-written : (old new : List ℕ) (c next : WriteCursor) (bs : List ℕ) (k : Chunk) → put bs ≡ k → 0 < length bs → Wrote old new c next bs → Rowed old new c next k
+pub row-written : (old new : List ℕ) (c next : WriteCursor) (bs : List ℕ) (k : Chunk) → emit bs ≡ k → 0 < length bs → Wrote old new c next bs → Rowed old new c next k
 row-written old new c next bs k e l w =
     let n : next .len ≡ c .len + length bs = ap (λ (x : WriteCursor). x .len) (w .cursor) in
     rw (← e) (record { more = lt-ltb (c .len) (next .len) (omega arith); wrote = w })

@@ -1,5 +1,5 @@
--- The answers to requests (document 01, "Handlers"; Core Vol 3 Part F 3.4). Each but that of Find By Type Value is a function of the view, the
--- request, and the buffer's length. Assumes nothing.
+-- The answers to requests (document 01, "Handlers"; Core Vol 3 Part F 3.4). Each but that of Find By Type Value is a
+-- function of the view, the request, and the buffer's length. Assumes nothing.
 use Prim.Native.Nat.{ℕ, _+_, _-_, _≤_}
 use mathlib.Core.Path.{_≡_}
 use mathlib.Core.Bool.{Bool, true, false, cond}
@@ -15,7 +15,7 @@ use Rattle.attribute.specs.Record.{Entry}
 use Rattle.attribute.specs.Lookup.{isWithin, isWanted}
 use Rattle.attribute.specs.declared.Access.{Access}
 use Rattle.attribute.specs.declared.Access.the-variants.{Granted, Denied}
-use Rattle.model.specs.Value.{Got, Bytes, Code, readFrom}
+use Rattle.model.specs.Value.{Contents, Bytes, Code, readFrom}
 use Rattle.model.specs.View.{View, Seen, Pending, ifMet, readAt, writeAt}
 use Rattle.model.specs.Run.{run, fromFirst}
 use Rattle.model.specs.Rows.{byTypeForm, byGroupForm, cut, extraOf, entriesIn, rowTurn, infoTurn, findTurn}
@@ -33,7 +33,7 @@ unfoldable pub errorRsp : ℕ → ℕ → ℕ → List ℕ
 errorRsp op h code = 0x01 ∷ op ∷ wordBytes h ++ (code ∷ [])
 
 -- a value behind its opcode, cut to the room; or the error
-unfoldable pub valueRsp : ℕ → ℕ → ℕ → ℕ → Got → List ℕ
+unfoldable pub valueRsp : ℕ → ℕ → ℕ → ℕ → Contents → List ℕ
 valueRsp rsp op h room (Bytes v) = rsp ∷ take (room - 1) v
 valueRsp rsp op h room (Code c) = errorRsp op h c
 
@@ -49,7 +49,7 @@ abbrev pub inRange : Range → List ℕ → List ℕ
 inRange g rsp = cond (isBadRange g) (errorRsp 0x08 (g .start) 0x01) rsp
 
 -- the two reads by type, from the first wanted entry on: its value fixes the length, its code is the answer
-unfoldable pub firstRsp : Form → (Entry → Bool) → ℕ → Seen → List Seen → Got → List ℕ
+unfoldable pub firstRsp : Form → (Entry → Bool) → ℕ → Seen → List Seen → Contents → List ℕ
 firstRsp f want room s l (Bytes v) =
     f .rsp ∷ (length (cut f room v) + extraOf f) ∷ run (rowTurn f want (length (cut f room v))) (s ∷ l) room
 firstRsp f want room s l (Code c) = errorRsp (f .op) (s .entry .handle) c
@@ -95,8 +95,8 @@ askRsp l room (Read h) d = valueRsp 0x0B 0x0A h room (readAt h l)
 askRsp l room (ReadBlob h off) d = valueRsp 0x0D 0x0C h room (readFrom off (readAt h l))
 askRsp l room ReadMultiple d = multipleRsp d
 
--- Prepare Write of n bytes, after len bytes for another handle and offset: handle 0; another handle than the pending one; not where the pending bytes
--- end; over 512 bytes. A link without a prepared write takes any handle and offset
+-- Prepare Write of n bytes, after len bytes for another handle and offset: handle 0; another handle than the pending
+-- one; not where the pending bytes end; over 512 bytes. A link without a prepared write takes any handle and offset
 unfoldable pub sizeRule : ℕ → ℕ → Access
 sizeRule len n = cond (ltb valueBytes (len + n)) (Denied 0x09) Granted
 
@@ -137,7 +137,8 @@ requestTold v list store room (request.Change c) d = changeTold v c d
 requestTold v list store room (request.ExchangeMtu mtu) d = none
 requestTold v list store room request.Confirmation d = none
 
--- what a handler that always answers promises of the buffer: it reports the response's length, which the buffer has, and the response stands there
+-- what a handler that always answers promises of the buffer: it reports the response's length, which the buffer has,
+-- and the response stands there
 pub record Sent (old new : List ℕ) (n : ℕ) (rsp : List ℕ) : Type 0 where
   pub size : n ≡ length rsp
   pub fits : length rsp ≤ length old

@@ -1,4 +1,5 @@
--- What the requests and `set` leave, in bytes (document 01, "Client table", "Attributes" and "Handlers"). Every byte that is not named stays. Assumes nothing.
+-- What the requests and `set` leave, in bytes (document 01, "Client table", "Attributes" and "Handlers"). Every byte
+-- that is not named stays. Assumes nothing.
 use Prim.Native.Nat.{ℕ, _+_}
 use mathlib.Core.Bool.{cond}
 use mathlib.Core.List.{List, []}

@@ -9,9 +9,9 @@ use Rattle.wire.specs.Bytes.{alike}
 use Rattle.wire.specs.Number.{wordBytes}
 use Rattle.attribute.specs.Record.{Entry, entryOf, attributeOf}
 use Rattle.attribute.specs.Lookup.{entriesOf, groupEnd}
-use Rattle.model.specs.Value.{Got, Bytes, Code, sharedItem}
+use Rattle.model.specs.Value.{Contents, Bytes, Code, sharedItem}
 use Rattle.model.specs.View.{Seen}
-use Rattle.model.specs.Run.{Chunk, stop, skip, put}
+use Rattle.model.specs.Run.{Chunk, stop, skip, emit}
 use Rattle.model.specs.declared.Form.{Form}
 
 unfoldable pub byTypeForm : Form
@@ -42,10 +42,10 @@ anyEntry e = true
 abbrev pub entriesIn : List Seen → List Entry
 entriesIn l = map (λ (s : Seen). s .entry) l
 
--- a row of the two reads by type, where the first value had n bytes: a read error or another length ends the list, and so does a room under n and
--- the lead. The cut comes before the length test
-unfoldable pub valueTurn : Form → ℕ → Entry → List Entry → ℕ → Got → Chunk
-valueTurn f n e es room (Bytes v) = cond (eqb (length (cut f room v)) n) (put (lead f e es ++ cut f room v)) stop
+-- a row of the two reads by type, where the first value had n bytes: a read error or another length ends the list, and
+-- so does a room under n and the lead. The cut comes before the length test
+unfoldable pub valueTurn : Form → ℕ → Entry → List Entry → ℕ → Contents → Chunk
+valueTurn f n e es room (Bytes v) = cond (eqb (length (cut f room v)) n) (emit (lead f e es ++ cut f room v)) stop
 valueTurn f n e es room (Code c) = stop
 
 unfoldable pub rowTurn : Form → (Entry → Bool) → ℕ → Seen → List Seen → ℕ → Chunk
@@ -58,7 +58,7 @@ rowTurn f want n s l room =
 unfoldable pub infoTurn : (Entry → Bool) → ℕ → Entry → List Entry → ℕ → Chunk
 infoTurn want n e es room =
     cond (want e)
-    (cond (both (eqb (length (e .uuid)) n) (leb (n + 2) room)) (put (wordBytes (e .handle) ++ e .uuid)) stop)
+    (cond (both (eqb (length (e .uuid)) n) (leb (n + 2) room)) (emit (wordBytes (e .handle) ++ e .uuid)) stop)
     skip
 
 -- a row of Find By Type Value: a shared value that is d as a whole, whoever asks; a client value never is
@@ -67,4 +67,4 @@ holds store d r = cond (attributeOf r .client) false (alike (sharedItem store (a
 
 unfoldable pub findTurn : List ℕ → (Entry → Bool) → List ℕ → List ℕ → List (List ℕ) → ℕ → Chunk
 findTurn store want d r rs room =
-    cond (both (want (entryOf r)) (holds store d r)) (cond (ltb room 4) stop (put (pairOf (entryOf r) (entriesOf rs)))) skip
+    cond (both (want (entryOf r)) (holds store d r)) (cond (ltb room 4) stop (emit (pairOf (entryOf r) (entriesOf rs)))) skip

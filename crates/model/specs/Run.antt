@@ -1,4 +1,5 @@
--- The list answers as runs of turns: at each element a turn gives bytes, and says whether the list goes on. Assumes nothing.
+-- The list answers as runs of turns: at each element a turn gives bytes, and says whether the list goes on. Assumes
+-- nothing.
 use Prim.Native.Nat.{ℕ, _-_}
 use mathlib.Core.Path.{_≡_}
 use mathlib.Core.Bool.{Bool, true, false, cond}
@@ -8,8 +9,8 @@ use lib.Dec.{ltb}
 use Rattle.wire.specs.Cursor.{Wrote}
 use Rattle.wire.specs.declared.cursor.WriteCursor.{WriteCursor}
 use Rattle.attribute.specs.Record.{Entry}
-use Rattle.attribute.specs.Walk.{Picks}
-use Rattle.attribute.specs.declared.Stretch.{Stretch}
+use Rattle.attribute_walk.specs.Walk.{Picks}
+use Rattle.attribute_walk.specs.declared.Stretch.{Stretch}
 
 pub record Chunk : Type 0 where
   pub bytes : List ℕ
@@ -22,8 +23,8 @@ stop = record { bytes = []; more = false }
 abbrev pub skip : Chunk
 skip = record { bytes = []; more = true }
 
-abbrev pub put : List ℕ → Chunk
-put bs = record { bytes = bs; more = true }
+abbrev pub emit : List ℕ → Chunk
+emit bs = record { bytes = bs; more = true }
 
 module _ {A : Type 0} where
   -- a turn is given its element, those after it, and the room that is left
@@ -46,7 +47,8 @@ pub record Rowed (old new : List ℕ) (c next : WriteCursor) (k : Chunk) : Type 
 abbrev pub TurnBy : Type 0
 TurnBy = (Entry → Bool) → List ℕ → List (List ℕ) → ℕ → Chunk
 
--- what the loop of a list answer promises: it writes the rows from a stretch's first place on, for every test that picks the stretch's records by `test`
+-- what the loop of a list answer promises: it writes the rows from a stretch's first place on, for every test that
+-- picks the stretch's records by `test`
 abbrev pub Listed : TurnBy → (List ℕ → Bool) → List (List ℕ) → Stretch → List ℕ → List ℕ → WriteCursor → WriteCursor → Type 0
 Listed turn test list p old new c next =
     (want : Entry → Bool) → Picks want test list (p .from) (p .to) → Wrote old new c next (run (turn want) (drop (p .from) list) (length old - c .len))

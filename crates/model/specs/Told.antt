@@ -1,4 +1,5 @@
--- What an answer of the server tells, in document 01's numbers and values (document 01, "Refusals of a call"). Assumes nothing.
+-- What an answer of the server tells, in document 01's numbers and values (document 01, "Refusals of a call"). Assumes
+-- nothing.
 use Prim.Native.Nat.{ℕ, _-_}
 use mathlib.Core.Path.{_≡_}
 use mathlib.Core.List.{List, _++_}

@@ -1,5 +1,5 @@
--- What one link can see of the hub: the list in which each value that it may not read is replaced by the code of the refusal, and its own
--- prepared write. Answers know of no other permission test. Assumes nothing.
+-- What one link can see of the hub: the list in which each value that it may not read is replaced by the code of the
+-- refusal, and its own prepared write. Answers know of no other permission test. Assumes nothing.
 use Prim.Native.Nat.{ℕ}
 use mathlib.Core.Bool.{Bool}
 use mathlib.Core.List.{List, [], _∷_, map}
@@ -17,12 +17,12 @@ use Rattle.peers.specs.Slots.{slotOf}
 use Rattle.peers.specs.declared.Identity.{Identity}
 use Rattle.peers.specs.declared.Slot.{Slot}
 use Rattle.state.specs.declared.Prepared.{Prepared}
-use Rattle.model.specs.Value.{Got, Code, readOf, writeOf}
+use Rattle.model.specs.Value.{Contents, Code, readOf, writeOf}
 
 -- an attribute as a link sees it: the value or a code, and what a write of so many bytes at an offset gets
 pub record Seen : Type 0 where
   pub entry : Entry
-  pub read : Got
+  pub read : Contents
   pub write : ℕ → ℕ → Access
 
 -- a prepared write; under handle 0 there is none
@@ -69,7 +69,7 @@ viewOf link list store table w = record { attrs = seenAll link list store table;
 abbrev pub isSeen : ℕ → Seen → Bool
 isSeen h s = eqb (s .entry .handle) h
 
-unfoldable pub readAt : ℕ → List Seen → Got
+unfoldable pub readAt : ℕ → List Seen → Contents
 readAt h l = first (isSeen h) (λ s. s .read) (Code 0x0A) l
 
 unfoldable pub writeAt : ℕ → ℕ → ℕ → List Seen → Access

@@ -6,8 +6,8 @@ pub struct Range {
     pub end: u16,
 }
 
-// The requests whose answer the asking link's view decides. Beside a request stand the bytes that it brings: the UUID of the two reads
-// by type, the handles of Read Multiple.
+// The requests whose answer the asking link's view decides. Beside a request stand the bytes that it brings: the UUID
+// of the two reads by type, the handles of Read Multiple.
 pub enum Ask {
     FindInformation(Range),
     ReadByType(Range),
@@ -25,7 +25,8 @@ pub enum Change {
     ExecuteWrite { flags: u8 },
 }
 
-// What a link may send. Find By Type Value looks at values that the link may not read; the bytes beside it are the value looked for.
+// What a link may send. Find By Type Value looks at values that the link may not read; the bytes beside it are the
+// value looked for.
 pub enum Request {
     Ask(Ask),
     FindByTypeValue { range: Range, uuid: u16 },
@@ -34,7 +35,8 @@ pub enum Request {
     Confirmation,
 }
 
-// What Read By Type and Read By Group Type differ in: whether the group's end stands before a value, the opcodes, the longest value.
+// What Read By Type and Read By Group Type differ in: whether the group's end stands before a value, the opcodes, the
+// longest value.
 pub struct Form {
     pub group: bool,
     pub op: u8,
@@ -42,8 +44,8 @@ pub struct Form {
     pub limit: usize,
 }
 
-// What a call of the server answers: refused, by the number that `specs/Told` gives; an ATT code; done; nothing to answer, or no; a value or a response of
-// so many bytes, which stand in the buffer that was lent.
+// What a call of the server answers: refused, by the number that `specs/Told` gives; an ATT code; done; nothing to
+// answer, or no; a value or a response of so many bytes, which stand in the buffer that was lent.
 pub enum Answer {
     BadState,
     BadBuffer,

@@ -1,4 +1,5 @@
--- Laws of identities: two that match are one, so that what matches one identity does not match another; and somebody is not nobody. Assumes nothing.
+-- Laws of identities: two that match are one, so that what matches one identity does not match another; and somebody is
+-- not nobody. Assumes nothing.
 use mathlib.Core.Path.{_≡_, refl, sym, ap, _∙_}
 use mathlib.Core.Bool.{Bool, true, false}
 use borrow.Author.Tests.{eqb-true, eq-eqb}

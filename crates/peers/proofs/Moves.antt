@@ -1,4 +1,5 @@
--- What a connecting and a leaving move is, case by case; and one that clears a table names a place of the row. Assumes nothing.
+-- What a connecting and a leaving move is, case by case; and one that clears a table names a place of the row. Assumes
+-- nothing.
 use mathlib.Core.Path.{_≡_, refl}
 use mathlib.Core.Bool.{Bool, true, false, not}
 use mathlib.Core.List.{List}
@@ -14,7 +15,8 @@ use Rattle.peers.specs.declared.Move.{Move}
 use Rattle.peers.specs.declared.Want.the-variants.{Usable, Free}
 use Rattle.peers.proofs.Laws.{walk-inside, slot-inside}
 
--- connecting: a slot that matches or is empty is taken as it is; else one not connected is cleared and taken; else the row is full
+-- connecting: a slot that matches or is empty is taken as it is; else one not connected is cleared and taken; else the
+-- row is full
 pub by-joining : (row : List Slot) (who : Identity) (P : Move → Type 0)
     → ((i : ℕ) → walk Usable row who ≡ At i → P (record { place = i; slot = taken who; clears = false; full = false }))
     → ((i : ℕ) → walk Usable row who ≡ Nothing → walk Free row who ≡ At i → P (record { place = i; slot = taken who; clears = true; full = false }))

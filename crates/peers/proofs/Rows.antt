@@ -1,4 +1,5 @@
--- A row of eight-byte slots and the slots that it decodes to: place by place, after a store, and each fixed by the other. Assumes nothing.
+-- A row of eight-byte slots and the slots that it decodes to: place by place, after a store, and each fixed by the
+-- other. Assumes nothing.
 use mathlib.Core.Path.{_≡_, refl, sym, ap, _∙_, subst}
 use mathlib.Core.List.{List, [], _∷_, head-eq-of-cons-eq, tail-eq-of-cons-eq}
 use Prim.Native.Nat.{ℕ, zero, suc, _<_}

@@ -1,4 +1,5 @@
--- A slot as the eight bytes in which it is lent, and a row of them: kind, address, connected, as they lie in memory. Assumes nothing.
+-- A slot as the eight bytes in which it is lent, and a row of them: kind, address, connected, as they lie in memory.
+-- Assumes nothing.
 use Prim.Native.Nat.{ℕ}
 use mathlib.Core.List.{List, [], _∷_, map}
 use lib.ListN.{getD}

@@ -1,5 +1,5 @@
--- The row of slots (document 01, "Slots"): which slot is a peer's, which one a connecting peer gets, and what the row and the
--- tables are after it connects and after it leaves. Assumes nothing.
+-- The row of slots (document 01, "Slots"): which slot is a peer's, which one a connecting peer gets, and what the row
+-- and the tables are after it connects and after it leaves. Assumes nothing.
 use Prim.Native.Nat.{ℕ, _<_}
 use mathlib.Core.Path.{_≡_}
 use mathlib.Core.Bool.{Bool, true, false, cond, not}
@@ -46,7 +46,8 @@ Inside Nothing n = Unit {0}
 abbrev pub taken : Identity → Slot
 taken who = record { id = who; connected = 1 }
 
--- connecting: the first slot that matches or is empty is taken as it is; else the first not connected is cleared and taken; else there is none
+-- connecting: the first slot that matches or is empty is taken as it is; else the first not connected is cleared and
+-- taken; else there is none
 abbrev pub joined : ℕ → Identity → Found → Found → Move
 joined n who (At i) free = record { place = i; slot = taken who; clears = false; full = false }
 joined n who Nothing (At i) = record { place = i; slot = taken who; clears = true; full = false }
@@ -55,7 +56,8 @@ joined n who Nothing Nothing = record { place = n; slot = taken who; clears = fa
 unfoldable pub connecting : List Slot → Identity → Move
 connecting row who = joined (length row) who (walk Usable row who) (walk Free row who)
 
--- leaving: the first matching slot is marked not connected; where the peer is unbonded, its identity is emptied and its table cleared
+-- leaving: the first matching slot is marked not connected; where the peer is unbonded, its identity is emptied and its
+-- table cleared
 abbrev pub nobody : Identity
 nobody = record { kind = 0; addr = 0 ∷ 0 ∷ 0 ∷ 0 ∷ 0 ∷ 0 ∷ [] }
 

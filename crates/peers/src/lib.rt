@@ -24,8 +24,8 @@ pub enum Want {
     Free,
 }
 
-// What connecting or leaving comes to: which place of the row changes, and the end of the row for none; the slot there then; whether its
-// table is cleared; and whether there was no slot to have.
+// What connecting or leaving comes to: which place of the row changes, and the end of the row for none; the slot there
+// then; whether its table is cleared; and whether there was no slot to have.
 pub struct Move {
     pub place: usize,
     pub slot: Slot,

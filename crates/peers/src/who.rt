@@ -11,7 +11,8 @@ fn wide(x: u8) -> u64
     x as u64
 }
 
-// An identity as one number. Its seven bytes lie side by side, low byte first, as in memory: LLVM makes one load of the sums.
+// An identity as one number. Its seven bytes lie side by side, low byte first, as in memory: LLVM makes one load of the
+// sums.
 fn number(a: Identity) -> u64
     ensures { λ r. ⌜ (r ≡ numberOf a) × Seven a ⌝ }
 {

@@ -7,7 +7,7 @@ ghost use Rattle.attribute.specs.Record.{attributeOf};
 ghost use Rattle.model.specs.Value.{readOf, readFrom};
 ghost use Rattle.model.specs.View.{seenAll, readAt};
 ghost use Rattle.model.specs.Answer.{Sent, valueRsp, multipleRsp};
-ghost use Rattle.values.specs.Locate.{gotOf, Inside, Ready};
+ghost use Rattle.values.specs.Locate.{contentsOf, LiesInside, ReadyToRead};
 ghost use Rattle.reading.specs.Copy.{copiedOf, copyOf};
 use crate::Copied;
 use attribute::Link;
@@ -16,7 +16,8 @@ use wire::cursor::WriteCursor;
 use wire::least;
 use wire::sizes::Record;
 
-// The value from an offset on behind its opcode, or the error. The offset is tested after the permission that `v` has passed.
+// The value from an offset on behind its opcode, or the error. The offset is tested after the permission that `v` has
+// passed.
 fn respond(
     store: &[u8],
     table: &[u8],
@@ -27,8 +28,8 @@ fn respond(
     offset: usize,
     out: &mut [u8],
 ) -> usize
-    requires { ⌜ (5 ≤ length (now out)) × Inside (now store) (now table) v ⌝ }
-    ensures { λ r. ⌜ Sent (now (out .entry)) (now (out .exit)) r (valueRsp rsp op handle (length (now (out .entry))) (readFrom offset (gotOf (now (store .entry)) (now (table .entry)) v))) ⌝ }
+    requires { ⌜ (5 ≤ length (now out)) × LiesInside (now store) (now table) v ⌝ }
+    ensures { λ r. ⌜ Sent (now (out .entry)) (now (out .exit)) r (valueRsp rsp op handle (length (now (out .entry))) (readFrom offset (contentsOf (now (store .entry)) (now (table .entry)) v))) ⌝ }
 {
     match v {
         Located::Not(code) => response::inner::error_response(out, op, handle, code),
@@ -54,7 +55,7 @@ pub fn read(
     handle: u16,
     out: &mut [u8],
 ) -> usize
-    requires { ⌜ (5 ≤ length (now out)) × Ready (now list) (length (now store)) (now table) ⌝ }
+    requires { ⌜ (5 ≤ length (now out)) × ReadyToRead (now list) (length (now store)) (now table) ⌝ }
     ensures { λ r. ⌜ Sent (now (out .entry)) (now (out .exit)) r (valueRsp 0x0B 0x0A handle (length (now (out .entry))) (readAt handle (seenAll link (now (list .entry)) (now (store .entry)) (now (table .entry))))) ⌝ }
 {
     let v = values::inner::locate(list, table, link, handle);
@@ -71,7 +72,7 @@ pub fn read_blob(
     offset: u16,
     out: &mut [u8],
 ) -> usize
-    requires { ⌜ (5 ≤ length (now out)) × Ready (now list) (length (now store)) (now table) ⌝ }
+    requires { ⌜ (5 ≤ length (now out)) × ReadyToRead (now list) (length (now store)) (now table) ⌝ }
     ensures { λ r. ⌜ Sent (now (out .entry)) (now (out .exit)) r (valueRsp 0x0D 0x0C handle (length (now (out .entry))) (readFrom offset (readAt handle (seenAll link (now (list .entry)) (now (store .entry)) (now (table .entry)))))) ⌝ }
 {
     let v = values::inner::locate(list, table, link, handle);
@@ -91,7 +92,7 @@ pub fn read_multiple(handles: &[u8], out: &mut [u8]) -> usize
 
 // The value of the entry at place i, whoever asks, into a buffer of any length.
 pub fn copy_value(list: &[Record], store: &[u8], table: &[u8], i: usize, out: &mut [u8]) -> Copied
-    requires { ⌜ (i < length (now list)) × Ready (now list) (length (now store)) (now table) ⌝ }
+    requires { ⌜ (i < length (now list)) × ReadyToRead (now list) (length (now store)) (now table) ⌝ }
     ensures { λ r. ⌜ (r ≡ copiedOf (length (now (out .entry))) (readOf (now (store .entry)) (now (table .entry)) (attributeOf (getD (now (list .entry)) i []))))
         × (now (out .exit) ≡ copyOf (now (out .entry)) (readOf (now (store .entry)) (now (table .entry)) (attributeOf (getD (now (list .entry)) i [])))) ⌝ }
 {

@@ -7,7 +7,8 @@ use Rattle.model.specs.declared.Change.the-variants.{Write, WriteCommand, Prepa
 use Rattle.model.specs.declared.Request.{Request}
 use Rattle.model.specs.declared.Request.the-variants as request
 
--- Find Information tells handles and types, Read Multiple is not served, and Prepare Write changes the link's record alone
+-- Find Information tells handles and types, Read Multiple is not served, and Prepare Write changes the link's record
+-- alone
 abbrev pub needsSlot : Request → Bool
 needsSlot (request.Ask (FindInformation g)) = false
 needsSlot (request.Ask (ReadByType g)) = true

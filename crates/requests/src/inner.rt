@@ -10,8 +10,8 @@ ghost use Rattle.model.specs.View.{pendingOf, tableAt, seenAll, viewOf};
 ghost use Rattle.model.specs.Answer.{Sent, askRsp, requestTold};
 ghost use Rattle.model.specs.Told.{Answered};
 ghost use Rattle.model.specs.Change.{stateBy, recordBy, dataBy};
-ghost use Rattle.values.specs.Locate.{Ready as ReadReady};
-ghost use Rattle.storing.specs.Ready.{Ready};
+ghost use Rattle.values.specs.Locate.{ReadyToRead};
+ghost use Rattle.storing.specs.Ready.{ReadyToStore};
 ghost use Rattle.requests.specs.Fits.{RequestFits};
 ghost use Rattle.requests.specs.Slot.{needsSlot};
 use attribute::Link;
@@ -19,13 +19,13 @@ use model::Answer;
 use model::Ask;
 use model::Change;
 use model::Request;
+use preparing::Changed;
+use preparing::inner::with_record;
 use state::Prepared;
 use wire::Found;
 use wire::sizes::Record;
 use wire::sizes::Table;
-use writing::Changed;
 use writing::inner::change;
-use writing::inner::with_record;
 
 // The requests that only read, with the asking peer's own table.
 fn ask(
@@ -37,13 +37,21 @@ fn ask(
     d: &[u8],
     out: &mut [u8],
 ) -> usize
-    requires { ⌜ ReadReady (now list) (length (now store)) (now table) × (6 ≤ length (now out)) ⌝ }
+    requires { ⌜ ReadyToRead (now list) (length (now store)) (now table) × (6 ≤ length (now out)) ⌝ }
     ensures { λ r. ⌜ Sent (now (out .entry)) (now (out .exit)) r (askRsp (seenAll link (now (list .entry)) (now (store .entry)) (now (table .entry))) (length (now (out .entry))) rq (now (d .entry))) ⌝ }
 {
     match rq {
-        Ask::FindInformation(g) => finding::inner::find_information(list, g, out),
-        Ask::ReadByType(g) => listing::inner::read_by_type(list, store, table, link, g, d, out),
-        Ask::ReadByGroupType(g) => listing::inner::read_by_group_type(
+        Ask::FindInformation(g) => finding_information::inner::find_information(list, g, out),
+        Ask::ReadByType(g) => reading_by_type::inner::read_by_type(
+            list,
+            store,
+            table,
+            link,
+            g,
+            d,
+            out,
+        ),
+        Ask::ReadByGroupType(g) => reading_by_type::inner::read_by_group_type(
             list,
             store,
             table,
@@ -77,7 +85,7 @@ fn ask_from(
     d: &[u8],
     out: &mut [u8],
 ) -> usize
-    requires { ⌜ Ready (now list) (length (now store)) (now tables) slot × (6 ≤ length (now out)) ⌝ }
+    requires { ⌜ ReadyToStore (now list) (length (now store)) (now tables) slot × (6 ≤ length (now out)) ⌝ }
     ensures { λ r. ⌜ Sent (now (out .entry)) (now (out .exit)) r (askRsp (seenAll link (now (list .entry)) (now (store .entry)) (tableAt (now (tables .entry)) slot)) (length (now (out .entry))) rq (now (d .entry))) ⌝ }
 {
     match slot {
@@ -86,7 +94,8 @@ fn ask_from(
     }
 }
 
-// Whether a request looks at the peer's own values, and so needs its slot. Where it does not, `answer` may be given none.
+// Whether a request looks at the peer's own values, and so needs its slot. Where it does not, `answer` may be given
+// none.
 pub fn needs_slot(rq: Request) -> bool
     ensures { λ r. ⌜ r ≡ needsSlot rq ⌝ }
 {
@@ -130,7 +139,7 @@ pub fn answer(
     d: &[u8],
     out: &mut [u8],
 ) -> Changed
-    requires { ⌜ Ready (now list) (length (now store)) (now tables) slot × (recordOk p ≡ true) ⌝ }
+    requires { ⌜ ReadyToStore (now list) (length (now store)) (now tables) slot × (recordOk p ≡ true) ⌝ }
     requires { ⌜ (length (now bytes) ≡ valueBytes) × (6 ≤ length (now out)) × RequestFits rq (length (now d)) (length (now out)) ⌝ }
     ensures { λ r. ⌜ (r .prepared ≡ recordBy p rq (length (now (d .entry))))
         × (now (bytes .exit) ≡ dataBy p (now (bytes .entry)) rq (now (d .entry)))
@@ -143,7 +152,7 @@ pub fn answer(
             with_record(p, Answer::Value(n))
         }
         Request::FindByTypeValue { range, uuid } => {
-            let n = finding::inner::find_by_type_value(list, store, range, uuid, d, out);
+            let n = finding_by_value::inner::find_by_type_value(list, store, range, uuid, d, out);
             with_record(p, Answer::Value(n))
         }
         Request::Change(c) => change(list, store, tables, slot, link, p, bytes, c, d, out),

@@ -10,14 +10,14 @@ use Rattle.peers.specs.Identity.{isBad}
 use Rattle.peers.specs.Slots.{slotOf}
 use Rattle.peers.specs.declared.Identity.{Identity}
 use Rattle.peers.specs.declared.Move.{Move}
-use Rattle.state.specs.State.{State, Waiting, state, moved}
+use Rattle.state.specs.State.{State, Waiting, state, afterMove}
 use Rattle.state.specs.Valid.{validWith}
 use Rattle.model.specs.View.{Pending}
 use Rattle.model.specs.Change.{stateBy}
-use Rattle.attribute_server.specs.Admission.{admissionBy, admission, isBadBuffer, leftIf}
+use Rattle.admission.specs.Admission.{admissionBy, admission, isBadBuffer, leftIf}
 use Rattle.attribute_server.specs.Request.{let-in, seenOf}
-use Rattle.attribute_server.specs.declared.Admission.{Admission}
-use Rattle.attribute_server.specs.declared.Admission.the-variants.{Yes, No}
+use Rattle.admission.specs.declared.Admission.{Admission}
+use Rattle.admission.specs.declared.Admission.the-variants.{Yes, No}
 use Rattle.secrecy.specs.Hub.{Hub, Asked, Deed, Process, Connect, Disconnect, Set, SetTable, Looks, Call, queryOf, withState, stepBy, step}
 use Rattle.secrecy.specs.Valid.{Valid}
 use Rattle.secrecy.specs.Secret.{SameWaiting, AgreeOn, Agree}
@@ -63,9 +63,9 @@ module _ (t : Identity) (may : ℕ → Bool) (a : Hub) (store : List ℕ) (ts : 
         waiting = g .waiting;
       }
 
-  move-agrees : (m : Move) → MoveSame t s store ts (sound a x) (sound b y) (g .state .kept) m → Agree t may (withState a (leftIf (admission s who) s (moved s m))) (withState b (leftIf (admission (b .state) who) (b .state) (moved (b .state) m)))
+  move-agrees : (m : Move) → MoveSame t s store ts (sound a x) (sound b y) (g .state .kept) m → Agree t may (withState a (leftIf (admission s who) s (afterMove s m))) (withState b (leftIf (admission (b .state) who) (b .state) (afterMove (b .state) m)))
   unfolding MoveSame
-  move-agrees m k = left-agrees (moved s m) (moved (b .state) m) (record { list = refl; row = refl; shared = g .state .shared; kept = k })
+  move-agrees m k = left-agrees (afterMove s m) (afterMove (b .state) m) (record { list = refl; row = refl; shared = g .state .shared; kept = k })
 
   -- a request: what waits at its link is the same before it, and after it
   module _ (q : Asked) where

@@ -1,5 +1,5 @@
--- Another tablet's call leaves t's slots and their tables: what each call changes lies in a slot that is not t's, or in one that t does not hold
--- while another connects. Assumes nothing.
+-- Another tablet's call leaves t's slots and their tables: what each call changes lies in a slot that is not t's, or in
+-- one that t does not hold while another connects. Assumes nothing.
 use mathlib.Core.Path.{_≡_, refl, sym, _∙_}
 use mathlib.Core.Bool.{Bool, true, false, true≢false}
 use mathlib.Core.List.{List}
@@ -22,14 +22,14 @@ use Rattle.peers.proofs.Laws.{matches-same, wanted-free, usable-own-or-empty, s
 use Rattle.peers.proofs.Moves.{by-joining, by-leaving}
 use Rattle.peers.proofs.Changes.{OnlyAt, moved-only, new-slot, row-stays, kept-tables, table-set}
 use Rattle.peers.proofs.Identities.{not-both, somebody-else, nobody-empty}
-use Rattle.state.specs.State.{State, state, moved}
+use Rattle.state.specs.State.{State, state, afterMove}
 use Rattle.model.specs.Change.{putAt}
 use Rattle.model.proofs.Leaving.{request-leaves}
 use Rattle.application.specs.Calls.{restored}
 use Rattle.application.proofs.Leaving.{set-leaves}
-use Rattle.attribute_server.specs.Admission.{admission, leftIf}
+use Rattle.admission.specs.Admission.{admission, leftIf}
 use Rattle.attribute_server.specs.Request.{seenOf, let-in}
-use Rattle.attribute_server.specs.declared.Admission.{Admission}
+use Rattle.admission.specs.declared.Admission.{Admission}
 use Rattle.secrecy.specs.Hub.{Deed, Process, Connect, Disconnect, Set, SetTable, Looks, queryOf, stepBy}
 use Rattle.secrecy.specs.Untouched.{SameSlot, isConnect, Spared, KeptApart}
 use Rattle.secrecy.proofs.Own.{found-own, tables-put, tables-restored}
@@ -60,12 +60,12 @@ module _ (t : Identity) (connects : Bool) (s : State) where
 
   -- a move there, and one past the end of the row
   SparedBy : Move → Type 0
-  SparedBy m = Spared t connects s (moved s m)
+  SparedBy m = Spared t connects s (afterMove s m)
 
   move-apart : (m : Move) → m .place < length (s .row) → matches t (m .slot) ≡ false
       → (matches t (getD (s .row) (m .place) noSlot) ≡ true → both connects (eqb (getD (s .row) (m .place) noSlot .connected) 0) ≡ false → ⊥) → SparedBy m
   unfolding SparedBy
-  move-apart m l new old = at-one (m .place) (moved s m) (moved-only (s .row) (s .tables) m) (rw (new-slot (s .row) m l) new) old
+  move-apart m l new old = at-one (m .place) (afterMove s m) (moved-only (s .row) (s .tables) m) (rw (new-slot (s .row) m l) new) old
 
   no-move : (m : Move) → length (s .row) ≤ m .place → m .clears ≡ false → SparedBy m
   unfolding SparedBy
@@ -73,7 +73,8 @@ module _ (t : Identity) (connects : Bool) (s : State) where
 
 -- `who` calls; t is another, and somebody
 module _ (t who : Identity) (some : isEmpty t ≡ false) (other : sameId who t ≡ false) where
-  -- a slot of who's is not t's, nor is one that is empty, one that `who` may use or has taken, and one that `who` leaves
+  -- a slot of who's is not t's, nor is one that is empty, one that `who` may use or has taken, and one that `who`
+  -- leaves
   own-not : (x : Slot) → matches who x ≡ true → matches t x ≡ false
   own-not x h = matches-same t x ∙ not-both (x .id) who t (sym (matches-same who x) ∙ h) other
 

@@ -1,5 +1,5 @@
--- What is kept for a tablet stays the same in two hubs: a change of one slot asks for that slot alone; a table's call makes one list of one list; and a
--- table that is nobody's, or cleared, is the list's fresh one. Assumes nothing.
+-- What is kept for a tablet stays the same in two hubs: a change of one slot asks for that slot alone; a table's call
+-- makes one list of one list; and a table that is nobody's, or cleared, is the list's fresh one. Assumes nothing.
 use mathlib.Core.Path.{_≡_, refl, sym, ap, _∙_}
 use mathlib.Core.Bool.{Bool, true, false, not}
 use mathlib.Core.List.{List, []}
@@ -14,7 +14,7 @@ use Rattle.wire.specs.declared.Found.the-variants.{At}
 use Rattle.wire.proofs.Walk.{placed}
 use Rattle.table_view.specs.View.{view}
 use Rattle.table_view.specs.Rules.{accepts}
-use Rattle.client_att_table.specs.AsList.{Call, bytesAfter, listAfter}
+use Rattle.client_att_table.specs.AsList.{TableCall, bytesAfter, listAfter}
 use Rattle.client_att_table.proofs.AsList.{call-list}
 use Rattle.peers.specs.Identity.{isEmpty}
 use Rattle.peers.specs.Slots.{matches, wanted, slotOf, taken, connecting, left, leaving, rowMoved, tablesMoved, noSlot}
@@ -74,7 +74,7 @@ module _ (t : Identity) (a : State) (store : List ℕ) (ts : List (List ℕ)) (x
   b = beside a store ts
 
   -- a table's call, in one slot
-  pub call-same : (i : ℕ) → i < length (a .row) → (c : Call) → SameKept t (a .row) (set (a .tables) i (bytesAfter (getD (a .tables) i []) c)) (set ts i (bytesAfter (getD ts i []) c))
+  pub call-same : (i : ℕ) → i < length (a .row) → (c : TableCall) → SameKept t (a .row) (set (a .tables) i (bytesAfter (getD (a .tables) i []) c)) (set ts i (bytesAfter (getD ts i []) c))
   call-same i l c =
       slot-same t i (a .row) (a .row) (a .tables) _ ts _ (table-set i (a .row) (a .tables) _) (table-set i (a .row) ts _) k
       (λ m.

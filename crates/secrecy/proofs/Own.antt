@@ -1,4 +1,5 @@
--- A peer's own slot: the one that is found is the peer's, and what a request, `set` and `set_client_att_table` do to the tables is a call of the table there.
+-- A peer's own slot: the one that is found is the peer's, and what a request, `set` and `set_client_att_table` do to
+-- the tables is a call of the table there.
 -- Said of two hubs side by side; one hub stands beside itself. Assumes nothing.
 use mathlib.Core.Path.{_≡_, refl, sym, _∙_}
 use mathlib.Core.Bool.{Bool, true, false, cond}
@@ -9,7 +10,7 @@ use Rattle.wire.specs.declared.Found.{Found}
 use Rattle.wire.specs.declared.Found.the-variants.{At, Nothing}
 use Rattle.wire.proofs.Walk.{placed}
 use Rattle.table_view.specs.Rules.{accepts}
-use Rattle.client_att_table.specs.AsList.{Call, write, setValues, bytesAfter}
+use Rattle.client_att_table.specs.AsList.{TableCall, write, setValues, bytesAfter}
 use Rattle.attribute.specs.Record.{attributeOf}
 use Rattle.peers.specs.Slots.{matches, wanted, slotOf, noSlot}
 use Rattle.peers.specs.declared.Identity.{Identity}
@@ -24,7 +25,7 @@ pub found-own : (row : List Slot) (who : Identity) (i : ℕ) → slotOf row who 
 found-own row who i e = sym (wanted-own who (getD row i noSlot)) ∙ placed (wanted Own who) noSlot row 0 i e .passes
 
 module _ (ts ts′ : List (List ℕ)) (slot : Found) (R : List (List ℕ) → List (List ℕ) → Type 0) (old : R ts ts′)
-    (call : (k : ℕ) → slot ≡ At k → (c : Call) → R (set ts k (bytesAfter (getD ts k []) c)) (set ts′ k (bytesAfter (getD ts′ k []) c))) where
+    (call : (k : ℕ) → slot ≡ At k → (c : TableCall) → R (set ts k (bytesAfter (getD ts k []) c)) (set ts′ k (bytesAfter (getD ts′ k []) c))) where
   own-put : (f : Found) → slot ≡ f → (h off : ℕ) (d : List ℕ) → R (ownTables ts f h off d) (ownTables ts′ f h off d)
   unfolding ownTables bytesAfter
   own-put Nothing e h off d = old
@@ -52,7 +53,7 @@ module _ (ts ts′ : List (List ℕ)) (slot : Found) (R : List (List ℕ) → Li
   both-restored saved = if-own (accepts saved) _ _ (own-restored slot refl saved)
 
 -- of one hub
-module _ (s : State) (slot : Found) (P : List (List ℕ) → Type 0) (old : P (s .tables)) (call : (k : ℕ) → slot ≡ At k → (c : Call) → P (set (s .tables) k (bytesAfter (getD (s .tables) k []) c))) where
+module _ (s : State) (slot : Found) (P : List (List ℕ) → Type 0) (old : P (s .tables)) (call : (k : ℕ) → slot ≡ At k → (c : TableCall) → P (set (s .tables) k (bytesAfter (getD (s .tables) k []) c))) where
   pub tables-put : (i off : ℕ) (d : List ℕ) → P (putAt s slot i off d .tables)
   tables-put = both-put (s .tables) (s .tables) slot (λ x y. P x) old call (s .list) (s .store) (s .store) (s .row)
 

@@ -1,5 +1,6 @@
--- The steps are the promises': whatever meets the contract of a call tells what `told` tells, and leaves the hub that `step` leaves. Each law takes the
--- proposition of the call's contract as it stands there; calls that only look are one step of nothing. Assumes nothing.
+-- The steps are the promises': whatever meets the contract of a call tells what `told` tells, and leaves the hub that
+-- `step` leaves. Each law takes the proposition of the call's contract as it stands there; calls that only look are one
+-- step of nothing. Assumes nothing.
 use mathlib.Core.Path.{_≡_, ap, subst}
 use mathlib.Core.Bool.{Bool}
 use mathlib.Core.List.{List, []}
@@ -18,7 +19,7 @@ use Rattle.attribute_server.specs.Value.{getTold, setTold, setLeft, canTold}
 use Rattle.attribute_server.specs.Subscription.{subscribedTold}
 use Rattle.attribute_server.specs.Table.{fetchedTold, restoredTold, restoredLeft}
 use Rattle.secrecy.specs.Hub.{Hub, Asked, Deed, Process, Connect, Disconnect, Set, SetTable, Looks, Get, Can, ShouldNotify, ShouldIndicate, GetTable, queryOf, toldBy, lookTold, withState, withWaiting, stepBy}
-use Rattle.secrecy.specs.Secret.{Outcome, Keeps}
+use Rattle.secrecy.specs.Secret.{RunEnd, Keeps}
 
 module _ (x : Hub) (who : Identity) where
   -- an answer without a buffer, one with a buffer, and an answer with the state that is left
@@ -48,7 +49,7 @@ module _ (x : Hub) (who : Identity) where
   set-table-is saved r s p = (p .0, ap (withState x) (p .1))
 
   -- a request, into a buffer of the length that it says
-  pub process-is : (q : Asked) (out : List ℕ) → length out ≡ q .room → (r : Outcome) → Keeps x who q out r
+  pub process-is : (q : Asked) (out : List ℕ) → length out ≡ q .room → (r : RunEnd) → Keeps x who q out r
       → Answered out (r .out) (r .answer) (toldBy x who (Process q)) × (withWaiting (withState x (r .state)) (q .link) (r .waiting) ≡ stepBy x who (Process q))
   unfolding toldBy stepBy
   process-is q out n r p =

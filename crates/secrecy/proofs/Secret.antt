@@ -24,11 +24,11 @@ use Rattle.model.specs.Told.{Answered}
 use Rattle.model.specs.declared.Request.{Request}
 use Rattle.model.specs.declared.Request.the-variants as request
 use Rattle.model.proofs.Hidden.{Alike, all-seen-same}
-use Rattle.attribute_server.specs.Admission.{toldIf}
+use Rattle.admission.specs.Admission.{toldIf}
 use Rattle.attribute_server.specs.Request.{seenOf}
-use Rattle.secrecy.specs.Hub.{Hub, Asked, Deed, Process, Connect, Disconnect, Set, SetTable, Looks, Call, queryOf, toldBy, told, step}
+use Rattle.secrecy.specs.Hub.{Hub, Asked, Deed, Process, Connect, Disconnect, Set, SetTable, Looks, Call, queryOf, toldBy, callTold, step}
 use Rattle.secrecy.specs.Valid.{Valid}
-use Rattle.secrecy.specs.Secret.{isCompared, isRequest, asks, heard, isGranted, reaches, everReaches, attributeAt, Agree, Secrecy, requestOf, SecretAnswers}
+use Rattle.secrecy.specs.Secret.{isCompared, isRequest, asks, heard, isGranted, reaches, everReaches, attributeAt, Agree, Secrecy, requestBy, SecretAnswers}
 use Rattle.peers.proofs.Identities.{same-is, same-self}
 use Rattle.storing.proofs.Writing.{item-length}
 use Rattle.model.proofs.Telling.{one-answered}
@@ -133,7 +133,7 @@ after-one : (t : Identity) (c : Call) (cs : List Call) (a b : Hub) → Valid a �
 after-one t c cs a b x y g =
     fewer t (everReaches t (c ∷ cs)) (everReaches t cs) (step a c) (step b c) (later-reaches t c cs) (step-agrees t (everReaches t (c ∷ cs)) c a b x y g)
 
-told-now : (t : Identity) (c : Call) (cs : List Call) (a b : Hub) → Valid a → Valid b → Agree t (everReaches t (c ∷ cs)) a b → asks t c ≡ true → told a c ≡ told b c
+told-now : (t : Identity) (c : Call) (cs : List Call) (a b : Hub) → Valid a → Valid b → Agree t (everReaches t (c ∷ cs)) a b → asks t c ≡ true → callTold a c ≡ callTold b c
 told-now t c cs a b x y g e =
     let who = both-l (sameId (c .who) t) _ e in
     rw (same-is (c .who) t who)
@@ -147,7 +147,7 @@ pub secrecy : Secrecy
 unfolding heard
 secrecy t [] a b x y g = refl
 secrecy t (c ∷ cs) a b x y g =
-    one-more (asks t c) (told a c) (told b c) _ _ (told-now t c cs a b x y g)
+    one-more (asks t c) (callTold a c) (callTold b c) _ _ (told-now t c cs a b x y g)
     (secrecy t cs (step a c) (step b c) (step-valid a c x) (step-valid b c y) (after-one t c cs a b x y g))
 
 -- the same of one request after the calls, and of whatever meets the promise
@@ -160,9 +160,9 @@ after-all t (c ∷ cs) rest a b x y g =
 pub secret-answers : SecretAnswers
 unfolding isRequest
 secret-answers t calls q a b x y g e out n r r′ p p′ =
-    let c = requestOf t q in
+    let c = requestBy t q in
     let a₁ = afterAll step a calls in
     let b₁ = afterAll step b calls in
-    let one : told a₁ c ≡ told b₁ c = told-now t c [] a₁ b₁ (all-valid a x calls) (all-valid b y calls) (after-all t calls (c ∷ []) a b x y g) (both-true _ _ (same-self t) e) in
-    let same = one-answered out (r .out) (r′ .out) (r .answer) (r′ .answer) (told b₁ c) (subst (Answered out (r .out) (r .answer)) one (process-is a₁ t q out n r p .0)) (process-is b₁ t q out n r′ p′ .0) in
+    let one : callTold a₁ c ≡ callTold b₁ c = told-now t c [] a₁ b₁ (all-valid a x calls) (all-valid b y calls) (after-all t calls (c ∷ []) a b x y g) (both-true _ _ (same-self t) e) in
+    let same = one-answered out (r .out) (r′ .out) (r .answer) (r′ .answer) (callTold b₁ c) (subst (Answered out (r .out) (r .answer)) one (process-is a₁ t q out n r p .0)) (process-is b₁ t q out n r′ p′ .0) in
     (same .answer, same .out)

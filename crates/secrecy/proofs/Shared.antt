@@ -1,5 +1,5 @@
--- A write keeps two states in agreement, whoever's it is: the list afterwards is decided by the list, a shared value by that value, and a table's list by that
--- list. Assumes nothing.
+-- A write keeps two states in agreement, whoever's it is: the list afterwards is decided by the list, a shared value by
+-- that value, and a table's list by that list. Assumes nothing.
 use mathlib.Core.Path.{_≡_, refl, sym, ap, _∙_}
 use mathlib.Core.Bool.{Bool, true, false}
 use mathlib.Core.List.{List, []}
@@ -9,7 +9,7 @@ use lib.ListN.{length, getD, set}
 use borrow.Author.Tests.{eqb-true, eqb-false}
 use Rattle.wire.specs.declared.Found.{Found}
 use Rattle.wire.specs.declared.Found.the-variants.{At}
-use Rattle.client_att_table.specs.AsList.{Call, bytesAfter, itemAfter}
+use Rattle.client_att_table.specs.AsList.{TableCall, bytesAfter, itemAfter}
 use Rattle.attribute.specs.Record.{Entry, entryOf, attributeOf}
 use Rattle.attribute.specs.Lookup.{placeOf}
 use Rattle.attribute.specs.Rules.{listOk}
@@ -48,7 +48,7 @@ module _ (t : Identity) (may : ℕ → Bool) (a : State) (store : List ℕ) (ts 
   slot = slotOf (a .row) who
 
   -- a call of the table in the slot of a peer
-  at-slot : (k : ℕ) → slot ≡ At k → (c : Call) → SameKept t (a .row) (set (a .tables) k (bytesAfter (getD (a .tables) k []) c)) (set ts k (bytesAfter (getD ts k []) c))
+  at-slot : (k : ℕ) → slot ≡ At k → (c : TableCall) → SameKept t (a .row) (set (a .tables) k (bytesAfter (getD (a .tables) k []) c)) (set ts k (bytesAfter (getD ts k []) c))
   at-slot k e c = call-same t a store ts x y (same .kept) k (slot-inside (a .row) who k e) c
 
   -- `set_client_att_table`

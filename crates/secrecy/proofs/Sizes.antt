@@ -1,4 +1,5 @@
--- Sizes are kept: whatever is called, each record and each table is as long as it was, and so are the prepared bytes. Assumes nothing.
+-- Sizes are kept: whatever is called, each record and each table is as long as it was, and so are the prepared bytes.
+-- Assumes nothing.
 use mathlib.Core.Path.{_≡_, refl, _∙_}
 use mathlib.Core.Bool.{Bool, true, false, cond}
 use mathlib.Core.List.{List, [], _∷_}
@@ -8,7 +9,7 @@ use lib.Seq.{sets, length-sets}
 use Rattle.wire.specs.declared.Found.{Found}
 use Rattle.wire.specs.declared.Found.the-variants.{At}
 use Rattle.client_att_table.specs.Clear.{cleared}
-use Rattle.client_att_table.specs.AsList.{Call, bytesAfter}
+use Rattle.client_att_table.specs.AsList.{TableCall, bytesAfter}
 use Rattle.client_att_table.proofs.Clearing.{clear-length}
 use Rattle.client_att_table.proofs.AsList.{call-length}
 use Rattle.attribute.specs.Lookup.{placeOf}
@@ -17,7 +18,7 @@ use Rattle.attribute.specs.declared.Access.the-variants.{Granted, Denied}
 use Rattle.attribute.specs.declared.Link.{Link}
 use Rattle.peers.specs.declared.Slot.{Slot}
 use Rattle.peers.specs.declared.Move.{Move}
-use Rattle.state.specs.State.{State, state, withTables, moved}
+use Rattle.state.specs.State.{State, state, withTables, afterMove}
 use Rattle.state.specs.Valid.{valid}
 use Rattle.state.specs.declared.Prepared.{Prepared}
 use Rattle.state.proofs.Keeping.{right-list}
@@ -31,9 +32,9 @@ use Rattle.model.specs.declared.Change.the-variants.{Write, WriteCommand, Prepa
 use Rattle.model.proofs.Leaving.{request-leaves}
 use Rattle.application.specs.Calls.{storeLeft, restored}
 use Rattle.application.proofs.Leaving.{set-leaves}
-use Rattle.attribute_server.specs.Admission.{leftIf}
-use Rattle.attribute_server.specs.declared.Admission.{Admission}
-use Rattle.attribute_server.specs.declared.Admission.the-variants.{Yes, No}
+use Rattle.admission.specs.Admission.{leftIf}
+use Rattle.admission.specs.declared.Admission.{Admission}
+use Rattle.admission.specs.declared.Admission.the-variants.{Yes, No}
 use Rattle.secrecy.specs.Valid.{Sized}
 use Rattle.secrecy.proofs.Own.{tables-put, tables-restored}
 
@@ -68,13 +69,13 @@ module _ (s : State) (z : Sized s) where
   other-tables : (row : List Slot) (ts : List (List ℕ)) → SameSizes (s .tables) ts → Sized (state (s .list) (s .store) row ts)
   other-tables row ts e = record { records = z .records; tables = λ i h. e i ∙ z .tables i h }
 
-  pub moved-sized : (m : Move) → Sized (moved s m)
+  pub moved-sized : (m : Move) → Sized (afterMove s m)
   moved-sized m =
       other-tables _ _
       (either (SameSizes (s .tables)) (m .clears) _ _ (set-sizes (s .tables) (m .place) (cleared (getD (s .tables) (m .place) [])) (clear-length (getD (s .tables) (m .place) []))) (λ j. refl))
 
   module _ (slot : Found) where
-    called : (k : ℕ) → slot ≡ At k → (c : Call) → SameSizes (s .tables) (set (s .tables) k (bytesAfter (getD (s .tables) k []) c))
+    called : (k : ℕ) → slot ≡ At k → (c : TableCall) → SameSizes (s .tables) (set (s .tables) k (bytesAfter (getD (s .tables) k []) c))
     called k e c = set-sizes (s .tables) k _ (call-length (getD (s .tables) k []) c)
 
     pub restored-sized : (saved : List ℕ) → Sized (withTables s (restored (s .tables) slot saved))

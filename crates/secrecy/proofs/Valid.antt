@@ -1,5 +1,5 @@
--- Valid in, valid out: every call, by anybody and with anything, keeps a valid hub valid; so does any list of calls, and the hub that `new` makes
--- is valid. Assumes nothing.
+-- Valid in, valid out: every call, by anybody and with anything, keeps a valid hub valid; so does any list of calls,
+-- and the hub that `new` makes is valid. Assumes nothing.
 use mathlib.Core.Path.{_≡_, sym, _∙_}
 use mathlib.Core.Bool.{true}
 use mathlib.Core.List.{List, [], _∷_}
@@ -16,7 +16,7 @@ use Rattle.state.specs.Fresh.{newTold}
 use Rattle.state.specs.Valid.{valid, recordOk}
 use Rattle.state.proofs.Answers.{by-rest}
 use Rattle.state.proofs.Calls.{made, made-valid, made-sized}
-use Rattle.attribute_server.specs.Admission.{admission, leftIf}
+use Rattle.admission.specs.Admission.{admission, leftIf}
 use Rattle.attribute_server.specs.Request.{seenOf, let-in, waitingBy, processLeft, processWaits}
 use Rattle.attribute_server.proofs.Admitting.{with-record, without-record}
 use Rattle.attribute_server.proofs.Valid.{none-ok, connect-valid, disconnect-valid, restore-valid, set-valid, process-valid}

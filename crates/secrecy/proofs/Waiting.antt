@@ -1,4 +1,5 @@
--- What waits at a link stays the same in two hubs, whatever is asked there: what Prepare Write appends is the request's own. Assumes nothing.
+-- What waits at a link stays the same in two hubs, whatever is asked there: what Prepare Write appends is the request's
+-- own. Assumes nothing.
 use mathlib.Core.Path.{_≡_, refl, sym, ap, subst, _∙_}
 use mathlib.Core.List.{List, _++_}
 use Prim.Native.Nat.{ℕ, _+_, _≤_}
@@ -16,7 +17,7 @@ use Rattle.model.specs.declared.Request.{Request}
 use Rattle.model.specs.declared.Request.the-variants as request
 use Rattle.model.specs.declared.Change.{Change}
 use Rattle.model.specs.declared.Change.the-variants.{Write, WriteCommand, PrepareWrite, ExecuteWrite}
-use Rattle.writing.proofs.Preparing.{granted-fits}
+use Rattle.preparing.proofs.Preparing.{granted-fits}
 use Rattle.attribute_server.specs.Request.{Query, waitingBy}
 use Rattle.secrecy.specs.Secret.{SameWaiting}
 

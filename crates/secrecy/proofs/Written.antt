@@ -1,5 +1,5 @@
--- A shared value, its length and its entry change by a request whose link meets the need for writing, and by `set`: no other call
--- touches them. Assumes nothing.
+-- A shared value, its length and its entry change by a request whose link meets the need for writing, and by `set`: no
+-- other call touches them. Assumes nothing.
 use Prim.Native.Nat.{ℕ, _<_}
 use mathlib.Core.Path.{_≡_, refl}
 use mathlib.Core.Bool.{false}
@@ -18,9 +18,9 @@ use Rattle.state.proofs.Keeping.{right-list}
 use Rattle.model.specs.Change.{putAt}
 use Rattle.model.proofs.Leaving.{request-leaves}
 use Rattle.storing.proofs.Shared.{entry-stays, value-stays}
-use Rattle.attribute_server.specs.Admission.{admission, leftIf}
+use Rattle.admission.specs.Admission.{admission, leftIf}
 use Rattle.attribute_server.specs.Request.{seenOf, let-in}
-use Rattle.attribute_server.specs.declared.Admission.{Admission}
+use Rattle.admission.specs.declared.Admission.{Admission}
 use Rattle.secrecy.specs.Hub.{Hub, Deed, Process, Connect, Disconnect, Set, SetTable, Looks, queryOf, stepBy}
 use Rattle.secrecy.specs.Valid.{Valid}
 use Rattle.secrecy.specs.Secret.{isGranted, attributeAt}

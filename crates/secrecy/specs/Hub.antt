@@ -1,5 +1,5 @@
--- A hub, the calls that can be made on it, what each tells and what it leaves: the definitions that the contracts of the server's
--- calls cite, and no others. Assumes nothing.
+-- A hub, the calls that can be made on it, what each tells and what it leaves: the definitions that the contracts of
+-- the server's calls cite, and no others. Assumes nothing.
 use Prim.Native.Nat.{ℕ}
 use mathlib.Core.Bool.{Bool, cond}
 use mathlib.Core.List.{List}
@@ -71,8 +71,8 @@ toldBy x who (Set h d) = setTold (x .state) who h (length d)
 toldBy x who (SetTable saved) = restoredTold (x .state) who saved
 toldBy x who (Looks l) = lookTold (x .state) who l
 
-abbrev pub told : Hub → Call → Told
-told x c = toldBy x (c .who) (c .deed)
+abbrev pub callTold : Hub → Call → Told
+callTold x c = toldBy x (c .who) (c .deed)
 
 -- the hub with another state; with something else waiting at one link
 abbrev pub withState : Hub → State → Hub

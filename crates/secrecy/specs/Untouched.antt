@@ -30,8 +30,8 @@ isConnect (Set h d) = false
 isConnect (SetTable saved) = false
 isConnect (Looks l) = false
 
--- a slot that is t's after another tablet's call was t's before it, with the same bytes; and no slot of t's is lost, but one that is not connected, to a
--- tablet that connects
+-- a slot that is t's after another tablet's call was t's before it, with the same bytes; and no slot of t's is lost,
+-- but one that is not connected, to a tablet that connects
 pub record Spared (t : Identity) (connects : Bool) (s s′ : State) : Type 0 where
   pub had : (j : ℕ) → matches t (getD (s′ .row) j noSlot) ≡ true → SameSlot s s′ j
   pub has : (j : ℕ) → matches t (getD (s .row) j noSlot) ≡ true → both connects (eqb (getD (s .row) j noSlot .connected) 0) ≡ false → SameSlot s s′ j
@@ -42,7 +42,8 @@ KeptApart =
     (t : Identity) (x : Hub) (c : Call) → isEmpty t ≡ false → sameId (c .who) t ≡ false
     → Spared t (isConnect (c .deed)) (x .state) (step x c .state)
 
--- which calls may change a shared value: a request whose link meets the need for writing; and the application's `set`, which tests none
+-- which calls may change a shared value: a request whose link meets the need for writing; and the application's `set`,
+-- which tests none
 unfoldable pub mayChange : Deed → Attribute → Bool
 mayChange (Process q) a = isGranted (mayWrite a (q .level))
 mayChange Connect a = false

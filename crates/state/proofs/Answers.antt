@@ -33,9 +33,9 @@ pub fresh-length : (list : List (List ℕ)) → length (freshTable list) ≡ tab
 unfolding freshTable
 fresh-length list = after-length (clientsOf list) (replicate tableBytes 0)
 
-pub fresh-builder : (list : List (List ℕ)) → builder (freshTable list) ≡ true
+pub laid-builder : (list : List (List ℕ)) → builder (freshTable list) ≡ true
 unfolding freshTable
-fresh-builder list = builder-is-list (clientsOf list) .ok
+laid-builder list = builder-is-list (clientsOf list) .ok
 
 -- `is_valid`
 module _ (s : State) where

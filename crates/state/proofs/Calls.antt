@@ -19,10 +19,10 @@ use Rattle.peers.specs.declared.Want.the-variants.{Usable, Free}
 use Rattle.peers.proofs.Identities.{nobody-empty}
 use Rattle.peers.proofs.Laws.{walk-inside, slot-inside}
 use Rattle.peers.proofs.Moves.{by-joining, by-leaving}
-use Rattle.state.specs.State.{State, moved}
+use Rattle.state.specs.State.{State, afterMove}
 use Rattle.state.specs.Fresh.{freshTable, tableSize, emptyRow, freshState, canOpen, tableFits, newTold, newLeft}
 use Rattle.state.specs.Valid.{valid}
-use Rattle.state.proofs.Answers.{fresh-length, fresh-builder}
+use Rattle.state.proofs.Answers.{fresh-length, laid-builder}
 use Rattle.state.proofs.Each.{slots-by}
 use Rattle.state.proofs.Keeping.{nobodys, stay-valid, taken-valid, retaken-valid, parted-valid, emptied-valid}
 
@@ -46,7 +46,7 @@ new-valid list store l s =
     (slots-by f emptyRow (replicate slotCount f) refl
     (λ i h.
     rw (getD-replicate slotCount i (record { id = nobody; connected = 0 }) noSlot h, getD-replicate slotCount i f [] h)
-    (nobodys f (fresh-length list) (fresh-builder list) (record { id = nobody; connected = 0 }) nobody-empty)))))
+    (nobodys f (fresh-length list) (laid-builder list) (record { id = nobody; connected = 0 }) nobody-empty)))))
 
 -- and so is what `new` makes, where it says done
 told-done : (a b : Bool) → cond a (cond b done (refused 6)) (refused 1) ≡ done → (a ≡ true) × (b ≡ true)
@@ -75,21 +75,21 @@ module _ (s : State) (e : newTold s ≡ done) where
 
 -- connecting and leaving
 module _ (s : State) (v : valid s ≡ true) (sized : (i : ℕ) → i < slotCount → length (getD (s .tables) i []) ≡ tableBytes) (who : Identity) where
-  pub connect-valid : isBad who ≡ false → valid (moved s (connecting (s .row) who)) ≡ true
+  pub connect-valid : isBad who ≡ false → valid (afterMove s (connecting (s .row) who)) ≡ true
   connect-valid g =
       let e = good-somebody who g in
-      by-joining (s .row) who (λ m. valid (moved s m) ≡ true)
+      by-joining (s .row) who (λ m. valid (afterMove s m) ≡ true)
       (λ i h. taken-valid s v sized i (walk-inside (s .row) who Usable i h) (taken who) e)
       (λ i u h. retaken-valid s v sized i (walk-inside (s .row) who Free i h) (taken who) e)
       (stay-valid s v (record { place = length (s .row); slot = taken who; clears = false; full = true }) (omega arith) refl)
 
   left-valid : (bonded : Bool) (i : ℕ) → slotOf (s .row) who ≡ At i
-      → valid (moved s (record { place = i; slot = left bonded (getD (s .row) i noSlot); clears = not bonded; full = false })) ≡ true
+      → valid (afterMove s (record { place = i; slot = left bonded (getD (s .row) i noSlot); clears = not bonded; full = false })) ≡ true
   unfolding left
   left-valid true i h = parted-valid s v sized i (slot-inside (s .row) who i h) (record { id = getD (s .row) i noSlot .id; connected = 0 }) refl
   left-valid false i h = emptied-valid s v sized i (slot-inside (s .row) who i h) (record { id = nobody; connected = 0 }) nobody-empty
 
-  pub disconnect-valid : (bonded : Bool) → valid (moved s (leaving (s .row) who bonded)) ≡ true
+  pub disconnect-valid : (bonded : Bool) → valid (afterMove s (leaving (s .row) who bonded)) ≡ true
   disconnect-valid bonded =
-      by-leaving (s .row) who bonded (λ m. valid (moved s m) ≡ true) (left-valid bonded)
+      by-leaving (s .row) who bonded (λ m. valid (afterMove s m) ≡ true) (left-valid bonded)
       (stay-valid s v (record { place = length (s .row); slot = record { id = nobody; connected = 0 }; clears = false; full = false }) (omega arith) refl)

@@ -1,4 +1,5 @@
--- The test of all slots is the test of each; and a change at one place asks for that slot's test alone. Assumes nothing.
+-- The test of all slots is the test of each; and a change at one place asks for that slot's test alone. Assumes
+-- nothing.
 use mathlib.Core.Path.{_≡_, refl, ap}
 use mathlib.Core.Bool.{Bool, true, false}
 use mathlib.Core.List.{List, [], _∷_}

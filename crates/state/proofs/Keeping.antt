@@ -26,11 +26,11 @@ use Rattle.peers.specs.Slots.{rowMoved, tablesMoved, noSlot, Tables}
 use Rattle.peers.specs.declared.Slot.{Slot}
 use Rattle.peers.specs.declared.Move.{Move}
 use Rattle.peers.proofs.Changes.{moved-only, new-slot, row-stays, clear-table, kept-tables}
-use Rattle.state.specs.State.{State, state, moved}
+use Rattle.state.specs.State.{State, state, afterMove}
 use Rattle.state.specs.Fresh.{freshTable, tableSize}
 use Rattle.state.specs.Valid.{laidOut, slotOk, slotsOk, valid}
-use Rattle.state.proofs.Testing.{same-index, joined}
-use Rattle.state.proofs.Answers.{fresh-length, fresh-builder}
+use Rattle.state.proofs.Testing.{same-index, rejoined}
+use Rattle.state.proofs.Answers.{fresh-length, laid-builder}
 use Rattle.state.proofs.Each.{slots-count, slot-at, slot-changed}
 
 -- a slot's test, by whose it is
@@ -123,7 +123,7 @@ module _ (fresh : List ℕ) (lf : length fresh ≡ tableBytes) (b : builder fres
     pub clear-fresh : cleared t ≡ fresh
     clear-fresh =
         let k = kept .len in
-        joined (baseOf fresh) (cleared t) fresh (head-same (cleared t) kept ∙ alike-eq _ _ head)
+        rejoined (baseOf fresh) (cleared t) fresh (head-same (cleared t) kept ∙ alike-eq _ _ head)
         (ext-getD 0 _ _ (simp length-drop (omega arith))
         (λ j h. getD-drop (baseOf fresh) (cleared t) j 0 ∙ rest-zero (baseOf fresh + j) (omega arith) ∙ sym (fresh-rest j)))
 
@@ -165,13 +165,13 @@ module _ (s : State) (v : valid s ≡ true) where
       (both-true _ _ right-list (both-true _ _ (le-leb _ _ table-fits) h))
 
   -- a move to a slot asks for that slot's test alone, and one past the end changes nothing
-  move-valid : (m : Move) → m .place < length (s .row) → slotOk (freshTable (s .list)) (m .slot) (getD (tablesMoved (s .tables) m) (m .place) []) ≡ true → valid (moved s m) ≡ true
+  move-valid : (m : Move) → m .place < length (s .row) → slotOk (freshTable (s .list)) (m .slot) (getD (tablesMoved (s .tables) m) (m .place) []) ≡ true → valid (afterMove s m) ≡ true
   move-valid m i h =
       let o = moved-only (s .row) (s .tables) m in
       with-slots (rowMoved (s .row) m) (tablesMoved (s .tables) m) (o .tables)
       (slot-changed (freshTable (s .list)) (m .place) (s .row) (rowMoved (s .row) m) (s .tables) (tablesMoved (s .tables) m) o right-slots (rw (new-slot (s .row) m i) h))
 
-  pub stay-valid : (m : Move) → length (s .row) ≤ m .place → m .clears ≡ false → valid (moved s m) ≡ true
+  pub stay-valid : (m : Move) → length (s .row) ≤ m .place → m .clears ≡ false → valid (afterMove s m) ≡ true
   stay-valid m h e = rw (row-stays (s .row) m h, kept-tables (s .tables) m e) v
 
   module _ (sized : (i : ℕ) → i < slotCount → length (getD (s .tables) i []) ≡ tableBytes) (i : ℕ) (hi : i < length (s .row)) where
@@ -185,32 +185,32 @@ module _ (s : State) (v : valid s ≡ true) where
 
     pub cleared-table : cleared (getD (s .tables) i []) ≡ freshTable (s .list)
     cleared-table =
-        clear-fresh (freshTable (s .list)) (fresh-length (s .list)) (fresh-builder (s .list)) (getD (s .tables) i []) (sized i inside) (laid-at i inside)
+        clear-fresh (freshTable (s .list)) (fresh-length (s .list)) (laid-builder (s .list)) (getD (s .tables) i []) (sized i inside) (laid-at i inside)
 
     -- with its table cleared
     cleared-valid : (x : Slot) (f : Bool) → slotOk (freshTable (s .list)) x (cleared (getD (s .tables) i [])) ≡ true
-        → valid (moved s (record { place = i; slot = x; clears = true; full = f })) ≡ true
+        → valid (afterMove s (record { place = i; slot = x; clears = true; full = f })) ≡ true
     cleared-valid x f h =
         let m : Move = record { place = i; slot = x; clears = true; full = f } in
         move-valid m hi (rw (clear-table (s .tables) m refl (omega (arith, inside, eight-tables))) h)
 
-    pub taken-valid : (x : Slot) → isEmpty (x .id) ≡ false → valid (moved s (record { place = i; slot = x; clears = false; full = false })) ≡ true
+    pub taken-valid : (x : Slot) → isEmpty (x .id) ≡ false → valid (afterMove s (record { place = i; slot = x; clears = false; full = false })) ≡ true
     taken-valid x e =
         move-valid (record { place = i; slot = x; clears = false; full = false }) hi
         (somebody (freshTable (s .list)) x (getD (s .tables) i []) (laid-at i inside) e)
 
-    pub retaken-valid : (x : Slot) → isEmpty (x .id) ≡ false → valid (moved s (record { place = i; slot = x; clears = true; full = false })) ≡ true
+    pub retaken-valid : (x : Slot) → isEmpty (x .id) ≡ false → valid (afterMove s (record { place = i; slot = x; clears = true; full = false })) ≡ true
     retaken-valid x e =
         cleared-valid x false
         (somebody (freshTable (s .list)) x (cleared (getD (s .tables) i []))
-        (clear-laid (freshTable (s .list)) (fresh-length (s .list)) (fresh-builder (s .list)) (getD (s .tables) i []) (sized i inside) (laid-at i inside)) e)
+        (clear-laid (freshTable (s .list)) (fresh-length (s .list)) (laid-builder (s .list)) (getD (s .tables) i []) (sized i inside) (laid-at i inside)) e)
 
-    pub parted-valid : (x : Slot) → x .id ≡ getD (s .row) i noSlot .id → valid (moved s (record { place = i; slot = x; clears = false; full = false })) ≡ true
+    pub parted-valid : (x : Slot) → x .id ≡ getD (s .row) i noSlot .id → valid (afterMove s (record { place = i; slot = x; clears = false; full = false })) ≡ true
     parted-valid x e =
         move-valid (record { place = i; slot = x; clears = false; full = false }) hi
         (same-owner (freshTable (s .list)) (getD (s .row) i noSlot) (getD (s .tables) i []) x e (slot-at (freshTable (s .list)) (s .row) (s .tables) right-slots i hi))
 
-    pub emptied-valid : (x : Slot) → isEmpty (x .id) ≡ true → valid (moved s (record { place = i; slot = x; clears = true; full = false })) ≡ true
+    pub emptied-valid : (x : Slot) → isEmpty (x .id) ≡ true → valid (afterMove s (record { place = i; slot = x; clears = true; full = false })) ≡ true
     emptied-valid x e =
         cleared-valid x false
-        (rw cleared-table (nobodys (freshTable (s .list)) (fresh-length (s .list)) (fresh-builder (s .list)) x e))
+        (rw cleared-table (nobodys (freshTable (s .list)) (fresh-length (s .list)) (laid-builder (s .list)) x e))

@@ -1,4 +1,5 @@
--- Laying out a list's table entry by entry: each client value of a right list, whose table fits, is a push that is added. Assumes nothing.
+-- Laying out a list's table entry by entry: each client value of a right list, whose table fits, is a push that is
+-- added. Assumes nothing.
 use mathlib.Core.Path.{_≡_, refl, sym, _∙_}
 use mathlib.Core.Bool.{Bool, true, false}
 use mathlib.Core.List.{List, []}

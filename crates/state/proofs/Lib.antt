@@ -1,7 +1,5 @@
 pub mod Sizes
 pub mod Laying
-pub mod Columns
-pub mod Values
 pub mod Each
 pub mod Testing
 pub mod Answers

@@ -6,13 +6,13 @@ use Prim.Native.Nat.{ℕ, _+_, _≤_, _<_}
 use native.Mathlib.Numerals.{add-one}
 use lib.ListN.{length, getD, drop, drop-of-length-le}
 use lib.Seq.{drop-cons}
-use Rattle.table_builder.specs.Push.{taken, withEntry}
+use Rattle.table_builder.specs.Push.{valueSize, withEntry}
 use Rattle.attribute.specs.Record.{attributeOf}
 use Rattle.attribute.specs.declared.Attribute.{Attribute}
 use Rattle.state.specs.Fresh.{pushOf, clientsOf, spaceOf, entriesSize, entryLaid}
 
 module _ (a : Attribute) where
-  pub space-client : a .client ≡ true → spaceOf a ≡ 4 + taken (a .cap) (a .variable)
+  pub space-client : a .client ≡ true → spaceOf a ≡ 4 + valueSize (a .cap) (a .variable)
   unfolding spaceOf
   space-client h = rw h
 

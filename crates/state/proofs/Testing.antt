@@ -6,8 +6,8 @@ use mathlib.Core.Logic.{⊎-elim}
 use Prim.Native.Nat.{ℕ, zero, suc, _+_, _-_, _≤_, _<_}
 use native.Mathlib.Numerals.{add-one}
 use native.Mathlib.Omega.{arith}
-use lib.ListN.{length, getD, take, drop, take-append-drop, length-take, length-drop, drop-of-length-le}
-use lib.Seq.{ext-getD, getD-take, drop-cons}
+use lib.ListN.{length, getD, take, drop, take-append-drop, length-drop, drop-of-length-le}
+use lib.Seq.{getD-take, drop-cons}
 use borrow.Author.Tests.{eqb-true}
 use Rattle.wire.specs.Size.{slotCount, tableBytes}
 use Rattle.wire.specs.Test.{both}
@@ -21,17 +21,18 @@ use Rattle.table_view.proofs.Shape.{fits}
 use Rattle.table_view.proofs.Same.{SameIndex, count-same, end-same, index-kept}
 use Rattle.table_builder.specs.Push.{builder}
 use Rattle.table_builder.proofs.Laws.{is-table, by-zeros}
+use Rattle.eight_tables.specs.Tables.{every, sized, agrees}
+use Rattle.eight_tables.proofs.Columns.{every-at, every-by, agrees-at, agrees-by, front-of}
 use Rattle.peers.specs.Identity.{isEmpty}
 use Rattle.peers.specs.Slots.{noSlot}
 use Rattle.peers.specs.declared.Slot.{Slot}
 use Rattle.state.specs.Valid.{laidOut, slotOk, slotsOk}
-use Rattle.state.specs.Tables.{every, sized, agrees, clearOk, clearsOk}
-use Rattle.state.proofs.Columns.{every-at, every-by, agrees-at, agrees-by, clear-empty, clear-taken}
+use Rattle.state.specs.Clear.{clearOk, clearsOk}
 use Rattle.state.proofs.Each.{slot-at, slots-by}
 
 -- two lists with the same head and the same rest
-pub joined : (n : ℕ) (a b : List ℕ) → take n a ≡ take n b → drop n a ≡ drop n b → a ≡ b
-joined n a b p q = sym (take-append-drop n a) ∙ rw (p, q) (take-append-drop n b)
+pub rejoined : (n : ℕ) (a b : List ℕ) → take n a ≡ take n b → drop n a ≡ drop n b → a ≡ b
+rejoined n a b p q = sym (take-append-drop n a) ∙ rw (p, q) (take-append-drop n b)
 
 both-right : (a : Bool) → both a true ≡ a
 unfolding both
@@ -78,7 +79,7 @@ module _ (fresh t : List ℕ) (s : Slot) (lf : length fresh ≡ tableBytes) (lt 
     -- an empty one: with zeros after the index it is the fresh table
     same-table : zeros (drop (baseOf fresh) t) ≡ true → t ≡ fresh
     same-table z =
-        joined (baseOf fresh) t fresh (alike-eq _ _ h)
+        rejoined (baseOf fresh) t fresh (alike-eq _ _ h)
         (zeros-same (drop (baseOf fresh) t) (drop (baseOf fresh) fresh) z rest-zero (simp length-drop (omega arith)))
 
     fresh-slot : t ≡ fresh → both (laidOut fresh t) (alike t fresh) ≡ true
@@ -92,6 +93,16 @@ module _ (fresh t : List ℕ) (s : Slot) (lf : length fresh ≡ tableBytes) (lt 
     unfolding slotOk
     by-clear e =
         rw e (same-test _ _ (λ z. fresh-slot (same-table z)) (λ w. rw (alike-eq t fresh (both-r _ _ w)) rest-zero))
+
+-- an empty slot, and one that is somebody's
+module _ (base end : ℕ) (s : Slot) (t : List ℕ) where
+  pub clear-empty : isEmpty (s .id) ≡ true → zeros (take (end - base) (drop base t)) ≡ clearOk base end s t
+  unfolding clearOk
+  clear-empty e = rw e refl
+
+  pub clear-taken : isEmpty (s .id) ≡ false → true ≡ clearOk base end s t
+  unfolding clearOk
+  clear-taken e = rw e refl
 
 -- the walk over the slots and their tables
 module _ (base end : ℕ) (row : List Slot) (ts : List (List ℕ)) (i : ℕ) (all : Bool) (inv : clearsOk base end (drop i row) (drop i ts) ≡ all) where
@@ -131,13 +142,6 @@ past : (l : List ℕ) (j : ℕ) → length l ≤ j → getD l j 0 ≡ 0
 past [] j h = refl
 past (x ∷ xs) zero h = absurd (omega arith)
 past (x ∷ xs) (suc j) h = past xs j (omega arith)
-
-front-of : (fresh t : List ℕ) (n : ℕ) → n ≤ length t → n ≤ length fresh → agrees fresh n 0 t ≡ true → alike (take n t) (take n fresh) ≡ true
-front-of fresh t n a b h =
-    let m : length (take n t) ≡ n = simp length-take (omega arith) in
-    let o : length (take n fresh) ≡ n = simp length-take (omega arith) in
-    let e : take n t ≡ take n fresh = ext-getD 0 _ _ (m ∙ sym o) (λ j g. let i : j < n = omega arith in rw (getD-take n t j 0 i, getD-take n fresh j 0 i) (agrees-at fresh n 0 t h j (omega arith) (omega arith))) in
-    rw e (alike-self (take n fresh))
 
 module _ (fresh : List ℕ) (row : List Slot) (ts : List (List ℕ)) (lf : length fresh ≡ tableBytes) (b : builder fresh ≡ true) (lr : length row ≡ slotCount) (l8 : length ts ≡ slotCount)
     (s : every sized ts ≡ true) where

@@ -8,7 +8,7 @@ use Rattle.wire.specs.Size.{slotCount, tableBytes}
 use Rattle.wire.specs.Test.{both}
 use Rattle.wire.specs.Run.{afterAll}
 use Rattle.table_view.specs.Told.{Told, done, refused}
-use Rattle.table_builder.specs.Push.{taken, withEntry}
+use Rattle.table_builder.specs.Push.{valueSize, withEntry}
 use Rattle.table_builder.specs.AsList.{Push, bytesAfter}
 use Rattle.attribute.specs.Record.{attributeOf}
 use Rattle.attribute.specs.Rules.{listOk}
@@ -33,7 +33,7 @@ freshTable list = afterAll bytesAfter (replicate tableBytes 0) (clientsOf list)
 
 -- how many bytes it takes: 4 for the header, and for each client value 4 in the index and its room
 unfoldable pub spaceOf : Attribute → ℕ
-spaceOf a = cond (a .client) (4 + taken (a .cap) (a .variable)) 0
+spaceOf a = cond (a .client) (4 + valueSize (a .cap) (a .variable)) 0
 
 unfoldable pub entriesSize : List (List ℕ) → ℕ
 entriesSize [] = 0
@@ -46,7 +46,8 @@ tableSize list = 4 + entriesSize list
 unfoldable pub entryLaid : List ℕ → Attribute → List ℕ
 entryLaid bs a = cond (a .client) (withEntry bs (a .handle) (a .cap) (a .variable)) bs
 
--- `new`: refusal 1 for a bad list, or for other than eight slots or tables; then 6 where its table would exceed 640 bytes
+-- `new`: refusal 1 for a bad list, or for other than eight slots or tables; then 6 where its table would exceed 640
+-- bytes
 abbrev pub toldOpened : Opened → Told
 toldOpened Done = done
 toldOpened BadList = refused 1

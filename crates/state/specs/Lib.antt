@@ -1,4 +1,4 @@
 pub mod State
 pub mod Fresh
-pub mod Tables
+pub mod Clear
 pub mod Valid

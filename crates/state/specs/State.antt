@@ -26,8 +26,8 @@ lent list store row ts = state list store (rowOf row) ts
 abbrev pub withTables : State → List (List ℕ) → State
 withTables s ts = state (s .list) (s .store) (s .row) ts
 
-abbrev pub moved : State → Move → State
-moved s m = state (s .list) (s .store) (rowMoved (s .row) m) (tablesMoved (s .tables) m)
+abbrev pub afterMove : State → Move → State
+afterMove s m = state (s .list) (s .store) (rowMoved (s .row) m) (tablesMoved (s .tables) m)
 
 -- list, store and tables become others, as f says; the row, whatever it is, stays
 abbrev pub Becomes : (State → State) → List (List ℕ) → List ℕ → List (List ℕ) → List (List ℕ) → List ℕ → List (List ℕ) → Type 0

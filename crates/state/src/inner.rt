@@ -11,9 +11,9 @@ ghost use Rattle.table_builder.specs.Push.{builder};
 ghost use Rattle.peers.specs.Bytes.{rowOf};
 ghost use Rattle.state.specs.Fresh.{spaceOf, entryLaid, tableSize, freshTable};
 ghost use Rattle.state.specs.Valid.{slotsOk};
-ghost use Rattle.state.specs.Tables.{clearOk, clearsOk};
-use crate::tables;
+ghost use Rattle.state.specs.Clear.{clearOk, clearsOk};
 use attribute::Attribute;
+use eight_tables::inner as tables;
 use peers::Slot;
 use table_view::Key;
 use table_view::inner as view;
@@ -82,8 +82,8 @@ fn clears_ok(row: &[SlotBytes], tables: &[Table], base: usize, end: usize) -> bo
     true
 }
 
-// All slots with their tables: the fresh table's header and index, zeros after the end, lengths within capacity; clear where the slot is
-// empty.
+// All slots with their tables: the fresh table's header and index, zeros after the end, lengths within capacity; clear
+// where the slot is empty.
 pub fn slots_ok(row: &[SlotBytes], all: &[Table], fresh: &Table) -> bool
     requires { ⌜ (length (now all) ≡ slotCount) × (builder (now fresh) ≡ true) × (length (now row) ≡ slotCount) ⌝ }
     ensures { λ r. ⌜ r ≡ slotsOk (now (fresh .entry)) (rowOf (now (row .entry))) (now (all .entry)) ⌝ }

@@ -1,6 +1,5 @@
 // Which lent states are valid, and a fresh hub.
 pub mod inner;
-mod tables;
 
 use wire::sizes::Record;
 use wire::sizes::SLOTS;
@@ -13,7 +12,8 @@ ghost use Rattle.state.specs.State.{lent};
 ghost use Rattle.state.specs.Valid.{recordOk, valid, validWith};
 ghost use Rattle.state.specs.Fresh.{toldOpened, newTold, newLeft};
 
-// A link's prepared write: its handle, 0 where there is none; where it starts; and how many bytes of it lie in the data beside it.
+// A link's prepared write: its handle, 0 where there is none; where it starts; and how many bytes of it lie in the data
+// beside it.
 #[repr(C)]
 pub struct Prepared {
     pub handle: u16,

@@ -1,5 +1,5 @@
--- Laws of a write to a client value: a table's answer is that of the plain list's item, and the slot's table is the one that
--- changes. Assumes nothing.
+-- Laws of a write to a client value: a table's answer is that of the plain list's item, and the slot's table is the one
+-- that changes. Assumes nothing.
 use mathlib.Core.Path.{_≡_, refl, sym, ap, _∙_}
 use mathlib.Core.Bool.{Bool, true, false, cond}
 use mathlib.Core.List.{List, []}
@@ -12,11 +12,11 @@ use Rattle.wire.specs.declared.Found.{Found}
 use Rattle.wire.specs.declared.Found.the-variants.{At, Nothing}
 use Rattle.table_view.specs.Layout.{countOf, capAt, lenAt}
 use Rattle.table_view.specs.Rules.{accepts}
-use Rattle.table_view.specs.Lookup.{placeOf}
+use Rattle.table_view.specs.Lookup.{indexPlace}
 use Rattle.table_view.specs.View.{itemAt, itemsFrom}
 use Rattle.table_view.specs.declared.Place.{Place}
-use Rattle.table_view.specs.declared.Found as table
-use Rattle.table_view.specs.declared.Found.the-variants as place
+use Rattle.table_view.specs.declared.Indexed as table
+use Rattle.table_view.specs.declared.Indexed.the-variants as place
 use Rattle.table_view.specs.declared.Outcome.the-variants.{BadOffset, BadLength}
 use Rattle.table_view.proofs.Shape.{value-length}
 use Rattle.table_view.proofs.Search.{placed}
@@ -42,14 +42,14 @@ module _ (bs : List ℕ) (ok : accepts bs ≡ true) (h off n : ℕ) where
   by-tests p false true = refl
   by-tests p false false = refl
 
-  at-found : (f : table.Found) → placeOf bs h ≡ f → accessBy (answer (planAt bs off n f)) ≡ atPlace f (λ (j : ℕ). itemWrite off n (itemAt bs j)) (Denied 0x0A)
+  at-found : (f : table.Indexed) → indexPlace bs h ≡ f → accessBy (answer (planAt bs off n f)) ≡ atPlace f (λ (j : ℕ). itemWrite off n (itemAt bs j)) (Denied 0x0A)
   unfolding planAt accessBy writeRule
   at-found place.Nothing e = refl
   at-found (place.At p) e =
       by-tests p (ltb (lenAt bs (p .0)) off) (ltb (capAt bs (p .0)) (off + n)) ∙ sym (item-rule (p .0) (placed bs h p e .inside))
 
   pub own-write : accessBy (answer (planOf bs h off n)) ≡ ownWrite bs h off n
-  own-write = at-found (placeOf bs h) refl ∙ sym (first-place bs h (itemWrite off n) (Denied 0x0A))
+  own-write = at-found (indexPlace bs h) refl ∙ sym (first-place bs h (itemWrite off n) (Denied 0x0A))
 
 pub own-after : (bs : List ℕ) → accepts bs ≡ true → (h off : ℕ) (d : List ℕ) → afterPlan bs off d (planOf bs h off (length d)) ≡ afterWrite bs h off d
 unfolding afterWrite

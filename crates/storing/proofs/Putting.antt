@@ -1,5 +1,5 @@
--- Laws of the rule for a write and of a shared value: each way by which the code answers, what a granted write has room for,
--- and what stands after it. Assumes nothing.
+-- Laws of the rule for a write and of a shared value: each way by which the code answers, what a granted write has room
+-- for, and what stands after it. Assumes nothing.
 use mathlib.Core.Path.{_≡_, refl}
 use mathlib.Core.Bool.{Bool, true, false, cond}
 use mathlib.Core.List.{List, []}

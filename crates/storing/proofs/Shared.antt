@@ -1,5 +1,5 @@
--- A write to a shared value is a write to an item of a plain list, and it stays there: every other entry's record and every
--- other shared value stand as they did, since the ranges lie apart. Assumes nothing.
+-- A write to a shared value is a write to an item of a plain list, and it stays there: every other entry's record and
+-- every other shared value stand as they did, since the ranges lie apart. Assumes nothing.
 use mathlib.Core.Path.{_≡_, refl, _∙_}
 use mathlib.Core.Bool.{Bool, true, false, cond}
 use mathlib.Core.List.{List, [], _∷_}

@@ -11,8 +11,8 @@ use Rattle.wire.specs.declared.Found.{Found}
 use Rattle.wire.specs.declared.Found.the-variants.{At, Nothing}
 use Rattle.table_view.specs.Rules.{accepts, indexOk, valuesOk}
 use Rattle.model.specs.View.{tableAt}
-use Rattle.values.specs.Locate.{Ready as ReadReady}
-use Rattle.storing.specs.Ready.{SlotReady, Ready}
+use Rattle.values.specs.Locate.{ReadyToRead}
+use Rattle.storing.specs.Ready.{SlotReady, ReadyToStore}
 
 pub no-entries : accepts (0 ∷ 0 ∷ 0 ∷ 0 ∷ []) ≡ true
 unfolding accepts both indexOk valuesOk word
@@ -35,9 +35,9 @@ module _ (ts : List (List ℕ)) (slot : Found) where
     slot-accepts = r .tables .read k (r .inside k e)
 
 -- as reading asks for it
-module _ (list : List (List ℕ)) (store : ℕ) (ts : List (List ℕ)) (slot : Found) (r : Ready list store ts slot) where
-  pub own-table : (k : ℕ) → slot ≡ At k → ReadReady list store (getD ts k [])
+module _ (list : List (List ℕ)) (store : ℕ) (ts : List (List ℕ)) (slot : Found) (r : ReadyToStore list store ts slot) where
+  pub own-table : (k : ℕ) → slot ≡ At k → ReadyToRead list store (getD ts k [])
   own-table k e = record { right = r .right; table = slot-accepts ts slot (r .own) k e }
 
-  pub empty-table : ReadReady list store (0 ∷ 0 ∷ 0 ∷ 0 ∷ [])
+  pub empty-table : ReadyToRead list store (0 ∷ 0 ∷ 0 ∷ 0 ∷ [])
   empty-table = record { right = r .right; table = no-entries }

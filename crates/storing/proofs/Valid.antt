@@ -1,5 +1,5 @@
--- Valid in, valid out: a write keeps a valid state valid. A shared value's length stays within its capacity, and a client
--- value's table keeps its header, its index and the zeros after its end. Assumes nothing.
+-- Valid in, valid out: a write keeps a valid state valid. A shared value's length stays within its capacity, and a
+-- client value's table keeps its header, its index and the zeros after its end. Assumes nothing.
 use mathlib.Core.Path.{_≡_, refl, ap, _∙_}
 use mathlib.Core.Bool.{Bool, true, false, cond}
 use mathlib.Core.List.{List, [], _∷_}
@@ -21,7 +21,7 @@ use Rattle.attribute.specs.Record.{attributeOf, withLength}
 use Rattle.attribute.specs.declared.Attribute.{Attribute}
 use Rattle.attribute.specs.declared.Access.{Access}
 use Rattle.attribute.specs.declared.Access.the-variants.{Granted, Denied}
-use Rattle.attribute.proofs.Kept.{Holds, fields-kept, variable-holds, length-kept}
+use Rattle.attribute.proofs.Kept.{HoldsLength, fields-kept, variable-holds, length-kept}
 use Rattle.peers.specs.Identity.{isEmpty, isBad}
 use Rattle.peers.specs.Slots.{wanted, slotOf, noSlot}
 use Rattle.peers.specs.declared.Identity.{Identity}
@@ -32,7 +32,7 @@ use Rattle.peers.proofs.Laws.{own-wanted}
 use Rattle.state.specs.State.{State, state, withTables}
 use Rattle.state.specs.Fresh.{clientsOf, freshTable, spaceOf, entriesSize}
 use Rattle.state.specs.Valid.{valid}
-use Rattle.state.proofs.Answers.{fresh-length, fresh-builder}
+use Rattle.state.proofs.Answers.{fresh-length, laid-builder}
 use Rattle.state.proofs.Each.{slot-changed}
 use Rattle.state.proofs.Keeping.{somebody, laid-accepts, kept-laid, eight-tables, eight-slots, right-list, right-slots, laid-at, with-slots}
 use Rattle.state.proofs.Calls.{good-somebody}
@@ -67,7 +67,7 @@ withList s list = state list (s .store) (s .row) (s .tables)
 
 module _ (s : State) (v : valid s ≡ true) where
   -- another present length of an entry
-  resized-valid : (i n : ℕ) → length (getD (s .list) i []) ≡ recordBytes → Holds (attributeOf (getD (s .list) i [])) n
+  resized-valid : (i n : ℕ) → length (getD (s .list) i []) ≡ recordBytes → HoldsLength (attributeOf (getD (s .list) i [])) n
       → valid (withList s (set (s .list) i (withLength (getD (s .list) i []) n))) ≡ true
   unfolding valid
   resized-valid i n l f =
@@ -108,7 +108,7 @@ module _ (s : State) (v : valid s ≡ true) where
         let x = getD (s .row) k noSlot in
         let t = getD (s .tables) k [] in
         let laid = laid-at s v k inside in
-        let here = somebody fresh x out (kept-laid fresh (fresh-length (s .list)) (fresh-builder (s .list)) t (sized k inside) laid out (kept (laid-accepts fresh t laid))) (ap isEmpty (same-is (x .id) who (own-wanted who x ∙ w .passes)) ∙ good-somebody who good) in
+        let here = somebody fresh x out (kept-laid fresh (fresh-length (s .list)) (laid-builder (s .list)) t (sized k inside) laid out (kept (laid-accepts fresh t laid))) (ap isEmpty (same-is (x .id) who (own-wanted who x ∙ w .passes)) ∙ good-somebody who good) in
         with-slots s v (s .row) (set (s .tables) k out) (length-set (s .tables) k out)
         (slot-changed fresh k (s .row) (s .row) (s .tables) (set (s .tables) k out) (table-set k (s .row) (s .tables) out) (right-slots s v) (rw (getD-set-same (s .tables) k out [] (omega arith)) here))
 

@@ -1,4 +1,5 @@
--- Laws of a write by place and by handle: the answer that the link's view gives, and what stands after it. Assumes nothing.
+-- Laws of a write by place and by handle: the answer that the link's view gives, and what stands after it. Assumes
+-- nothing.
 use mathlib.Core.Path.{_≡_, refl, sym, _∙_}
 use mathlib.Core.Bool.{Bool, true, false, cond}
 use mathlib.Core.List.{List, []}

@@ -18,7 +18,7 @@ pub record SlotReady (ts : List (List ℕ)) (slot : Found) : Type 0 where
   pub tables : Tables ts
   pub inside : (k : ℕ) → slot ≡ At k → k < slotCount
 
-pub record Ready (list : List (List ℕ)) (store : ℕ) (ts : List (List ℕ)) (slot : Found) : Type 0 where
+pub record ReadyToStore (list : List (List ℕ)) (store : ℕ) (ts : List (List ℕ)) (slot : Found) : Type 0 where
   pub right : listOk list store ≡ true
   pub own : SlotReady ts slot
 

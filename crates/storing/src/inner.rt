@@ -1,5 +1,5 @@
-// Writes at an offset of a value. The handle comes first, then the link and the need, then the value's own rule, the offset before the capacity; any
-// answer but `Granted` leaves every byte.
+// Writes at an offset of a value. The handle comes first, then the link and the need, then the value's own rule, the
+// offset before the capacity; any answer but `Granted` leaves every byte.
 ghost use mathlib.Core.Path.{_≡_};
 ghost use mathlib.Core.Bool.{true, false};
 ghost use mathlib.Core.List.{[]};
@@ -11,7 +11,7 @@ ghost use Rattle.state.specs.State.{Becomes};
 ghost use Rattle.model.specs.Value.{writeRule, writeOf, ownWrite};
 ghost use Rattle.model.specs.View.{tableAt, seenAll, writeAt};
 ghost use Rattle.model.specs.Change.{sharedList, sharedStore, ownTables, putAt, written};
-ghost use Rattle.storing.specs.Ready.{SlotReady, Ready, accessBy};
+ghost use Rattle.storing.specs.Ready.{SlotReady, ReadyToStore, accessBy};
 use attribute::Access;
 use attribute::Link;
 use table_view::Key;
@@ -87,7 +87,7 @@ pub fn put_at(
     offset: usize,
     d: &[u8],
 ) -> Access
-    requires { ⌜ (i < length (now list)) × Ready (now list) (length (now store)) (now tables) slot ⌝ }
+    requires { ⌜ (i < length (now list)) × ReadyToStore (now list) (length (now store)) (now tables) slot ⌝ }
     ensures { λ r. ⌜ (r ≡ writeOf (now (store .entry)) (tableAt (now (tables .entry)) slot) (attributeOf (getD (now (list .entry)) i [])) offset (length (now (d .entry))))
         × Becomes (λ s. putAt s slot i offset (now (d .entry))) (now (list .entry)) (now (store .entry)) (now (tables .entry)) (now (list .exit)) (now (store .exit)) (now (tables .exit)) ⌝ }
 {
@@ -109,11 +109,11 @@ pub fn write(
     offset: usize,
     d: &[u8],
 ) -> Access
-    requires { ⌜ Ready (now list) (length (now store)) (now tables) slot ⌝ }
+    requires { ⌜ ReadyToStore (now list) (length (now store)) (now tables) slot ⌝ }
     ensures { λ r. ⌜ (r ≡ writeAt handle offset (length (now (d .entry))) (seenAll link (now (list .entry)) (now (store .entry)) (tableAt (now (tables .entry)) slot)))
         × Becomes (λ s. written link s slot handle offset (now (d .entry))) (now (list .entry)) (now (store .entry)) (now (tables .entry)) (now (list .exit)) (now (store .exit)) (now (tables .exit)) ⌝ }
 {
-    let Found::At(i) = attribute::walk::find_listed(list, handle) else {
+    let Found::At(i) = attribute_walk::walk::find_listed(list, handle) else {
         return Access::Denied(0x0A);
     };
     if let Access::Denied(code) = attribute::needs::may_write(

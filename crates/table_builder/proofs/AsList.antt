@@ -1,4 +1,5 @@
--- A run of pushes lays out the plain list (`specs/AsList.antt`): bytes that hold a list, with no gap between values, hold the list with one entry more after a push.
+-- A run of pushes lays out the plain list (`specs/AsList.antt`): bytes that hold a list, with no gap between values,
+-- hold the list with one entry more after a push.
 -- Assumes nothing.
 use mathlib.Core.Path.{_≡_, refl, sym, ap, _∙_}
 use mathlib.Core.Bool.{Bool, true, false, cond}
@@ -13,7 +14,7 @@ use Rattle.wire.specs.Number.{word}
 use Rattle.table_view.specs.Layout.{endOf}
 use Rattle.table_view.specs.View.{Item, itemsFrom, view}
 use Rattle.table_view.specs.Told.{done, refused, ifDone}
-use Rattle.table_builder.specs.Push.{builder, lastKey, entryFits, taken, pushPlan, withEntry, toldPushed}
+use Rattle.table_builder.specs.Push.{builder, lastKey, entryFits, valueSize, pushPlan, withEntry, toldPushed}
 use Rattle.table_builder.specs.AsList.{Push, blank, lastOf, sizeOf, listTold, listAfter, bytesTold, bytesAfter, BuilderIsList}
 use Rattle.table_builder.specs.declared.Pushed.the-variants.{Added, BadEntry, NoRoom}
 use Rattle.table_builder.proofs.Laws.{Adds, adds}
@@ -25,7 +26,7 @@ unfolding lastOf
 last-more k [] x = refl
 last-more k (y ∷ ys) x = last-more (y .key) ys x
 
-size-more : (xs : List Item) (x : Item) → sizeOf (xs ++ x ∷ []) ≡ sizeOf xs + 4 + taken (x .room) (x .variable)
+size-more : (xs : List Item) (x : Item) → sizeOf (xs ++ x ∷ []) ≡ sizeOf xs + 4 + valueSize (x .room) (x .variable)
 unfolding sizeOf
 size-more [] x = omega arith
 size-more (y ∷ ys) x = omega (arith, size-more ys x)
@@ -38,16 +39,16 @@ pub record Holds (bs : List ℕ) (xs : List Item) : Type 0 where
   pub end : endOf bs ≡ 4 + sizeOf xs
   pub last : lastKey bs ≡ lastOf 0 xs
 
-pub fresh : Holds (replicate tableBytes 0) []
+pub fresh-holds : Holds (replicate tableBytes 0) []
 unfolding word itemsFrom sizeOf lastKey lastOf
-fresh = record { long = refl; ok = fresh-builder; reads = refl; end = refl; last = refl }
+fresh-holds = record { long = refl; ok = fresh-builder; reads = refl; end = refl; last = refl }
 
 -- the two tests of a push on a list
 abbrev fits : List Item → Push → Bool
 fits xs p = entryFits (lastOf 0 xs) (p .key) (p .size)
 
 abbrev has-room : List Item → Push → Bool
-has-room xs p = leb (4 + sizeOf xs + 4 + taken (p .size) (p .variable)) tableBytes
+has-room xs p = leb (4 + sizeOf xs + 4 + valueSize (p .size) (p .variable)) tableBytes
 
 module _ (bs : List ℕ) (xs : List Item) (t : Holds bs xs) (p : Push) where
   more : Adds bs (p .key) (p .size) (p .variable) → Holds (withEntry bs (p .key) (p .size) (p .variable)) (xs ++ blank p ∷ [])
@@ -99,5 +100,5 @@ all-told (p ∷ ps) bs xs t = rw (told-same bs xs t p, all-told ps _ _ (push-hol
 
 pub builder-is-list : BuilderIsList
 builder-is-list ps =
-    let t = all-hold ps (replicate tableBytes 0) [] fresh in
-    record { ok = t .ok; reads = t .reads; told = all-told ps (replicate tableBytes 0) [] fresh }
+    let t = all-hold ps (replicate tableBytes 0) [] fresh-holds in
+    record { ok = t .ok; reads = t .reads; told = all-told ps (replicate tableBytes 0) [] fresh-holds }

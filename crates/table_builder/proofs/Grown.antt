@@ -1,4 +1,5 @@
--- A builder with one entry more: its numbers, the old entries that stay and the new one, and that it is a builder again. Assumes nothing.
+-- A builder with one entry more: its numbers, the old entries that stay and the new one, and that it is a builder
+-- again. Assumes nothing.
 use mathlib.Core.Path.{_≡_, refl, sym, _∙_}
 use mathlib.Core.Bool.{Bool, true, false, cond}
 use mathlib.Core.List.{List, [], _∷_, _++_}
@@ -18,12 +19,12 @@ use Rattle.wire.proofs.Fold.{all-zeros}
 use Rattle.wire.proofs.Tests.{both-l, both-r, both-true, split}
 use Rattle.wire.proofs.Sets.{past, word-before, word-past, word-same}
 use Rattle.table_view.specs.Layout.{countOf, valuesLen, baseOf, endOf, keyAt, varAt, offAt, nextAt, headAt, capAt}
-use Rattle.table_view.specs.Rules.{entryOk, indexOk, valueOk, valuesOk, accepts}
+use Rattle.table_view.specs.Rules.{indexEntryOk, indexOk, valueOk, valuesOk, accepts}
 use Rattle.table_view.specs.View.{itemAt, itemsFrom, view}
 use Rattle.table_view.proofs.Cases.{next-inner, next-last}
 use Rattle.table_view.proofs.Reading.{by-values}
 use Rattle.table_view.proofs.Shape.{index, entry-at, entry-value, all-values, ascends}
-use Rattle.table_builder.specs.Push.{builder, lastKey, taken, flagged, pushPlan, withEntry, ifAdded, afterPush}
+use Rattle.table_builder.specs.Push.{builder, lastKey, valueSize, flagged, pushPlan, withEntry, ifAdded, afterPush}
 use Rattle.table_builder.specs.AsList.{blank}
 use Rattle.table_builder.specs.declared.Pushed.{Pushed}
 use Rattle.table_builder.specs.declared.Pushed.the-variants.{Added, BadBuilder, BadEntry, NoRoom}
@@ -41,7 +42,8 @@ unfolding flagged
 flagged-var k true h = le-leb 32768 (k + 32768) (omega arith)
 flagged-var k false h = lt-leb 32768 k (omega arith)
 
--- the four stores over any numbers: what each holds after all, and what stays between the header and the entry, and after it
+-- the four stores over any numbers: what each holds after all, and what stays between the header and the entry, and
+-- after it
 abbrev four : List ℕ → ℕ → ℕ → ℕ → ℕ → ℕ → List ℕ
 four l at a b c d = sets (sets (sets (sets l 0 (wordBytes a)) 2 (wordBytes b)) at (wordBytes c)) (at + 2) (wordBytes d)
 
@@ -81,11 +83,12 @@ module _ (l : List ℕ) (at a b c d : ℕ) (low : 4 ≤ at) where
     word-four : word (four l at a b c d) (at + 2) ≡ d
     word-four = word-same three (at + 2) d (simp length-set (omega arith))
 
--- what an entry that was put leaves: the header's numbers have moved, the entry stands after the old ones, and the other bytes stay
+-- what an entry that was put leaves: the header's numbers have moved, the entry stands after the old ones, and the
+-- other bytes stay
 pub record Grown (bs out : List ℕ) (k n : ℕ) (var : Bool) : Type 0 where
   pub size : length out ≡ length bs
   pub count : countOf out ≡ countOf bs + 1
-  pub values : valuesLen out ≡ valuesLen bs + taken n var
+  pub values : valuesLen out ≡ valuesLen bs + valueSize n var
   pub old : (j : ℕ) → 4 ≤ j → j + 1 < baseOf bs → word out j ≡ word bs j
   pub key : word out (baseOf bs) ≡ flagged k var
   pub off : word out (baseOf bs + 2) ≡ valuesLen bs
@@ -96,7 +99,7 @@ unfolding withEntry
 grown bs k n var room =
     let low : 4 ≤ baseOf bs = omega arith in
     let a = countOf bs + 1 in
-    let b = valuesLen bs + taken n var in
+    let b = valuesLen bs + valueSize n var in
     let c = flagged k var in
     let d = valuesLen bs in
     record {
@@ -110,8 +113,8 @@ grown bs k n var room =
     }
 
 -- a value takes its room and its length's bytes
-head-taken : (n : ℕ) (var : Bool) → cond var 2 0 + n ≡ taken n var
-unfolding taken
+head-taken : (n : ℕ) (var : Bool) → cond var 2 0 + n ≡ valueSize n var
+unfolding valueSize
 head-taken n true = omega arith
 head-taken n false = omega arith
 
@@ -164,7 +167,7 @@ module _ (bs out : List ℕ) (k n : ℕ) (var : Bool) (a : Adds bs k n var) (g :
   unfolding headAt
   head-old j h = rw (var-old j h)
 
-  head-new : headAt out (countOf bs) + n ≡ taken n var
+  head-new : headAt out (countOf bs) + n ≡ valueSize n var
   unfolding headAt
   head-new = rw var-new (head-taken n var)
 
@@ -179,7 +182,7 @@ module _ (bs out : List ℕ) (k n : ℕ) (var : Bool) (a : Adds bs k n var) (g :
   clear-out j h = let c = g .count in g .rest j (omega arith) ∙ is-clear bs (a .ok) j (omega arith)
 
   index-out : (m i p o : ℕ) → i + m ≡ countOf bs → indexOk bs m i p o ≡ true → p < k → o ≤ valuesLen bs → indexOk out (suc m) i p o ≡ true
-  unfolding indexOk entryOk
+  unfolding indexOk indexEntryOk
   index-out zero i p o e h l q =
       let s : i ≡ countOf bs = omega arith in
       rw (s, key-new, off-new)
@@ -212,7 +215,7 @@ module _ (bs out : List ℕ) (k n : ℕ) (var : Bool) (a : Adds bs k n var) (g :
       (eq-or-lt-of-le m))
 
   -- where the values end, and the last key
-  pub end-out : endOf out ≡ endOf bs + 4 + taken n var
+  pub end-out : endOf out ≡ endOf bs + 4 + valueSize n var
   end-out = omega (arith, g .count, g .values)
 
   pub last-out : lastKey out ≡ k

@@ -1,4 +1,5 @@
--- Laws of `specs/Push.antt`, in the form in which a need asks them: each way to an answer, and the four stores. Assumes nothing.
+-- Laws of `specs/Push.antt`, in the form in which a need asks them: each way to an answer, and the four stores. Assumes
+-- nothing.
 use mathlib.Core.Path.{_≡_, refl, sym, _∙_}
 use mathlib.Core.Bool.{Bool, true, false, cond}
 use mathlib.Core.List.{List, append-nil}
@@ -16,7 +17,7 @@ use Rattle.wire.proofs.Tests.{both-l, both-r, both-true, both-false-l, both-fal
 use Rattle.table_view.specs.Layout.{countOf, valuesLen, baseOf, endOf, keyAt}
 use Rattle.table_view.specs.Rules.{accepts}
 use Rattle.table_view.specs.Told.{done, refused}
-use Rattle.table_builder.specs.Push.{builder, lastKey, entryFits, taken, flagged, pushPlan, withEntry, ifAdded, buildTold, afterBuild}
+use Rattle.table_builder.specs.Push.{builder, lastKey, entryFits, valueSize, flagged, pushPlan, withEntry, ifAdded, buildTold, afterBuild}
 use Rattle.table_builder.specs.declared.Pushed.{Pushed}
 use Rattle.table_builder.specs.declared.Pushed.the-variants.{Added, BadBuilder, BadEntry, NoRoom}
 
@@ -68,17 +69,17 @@ module _ (bs : List ℕ) (k n : ℕ) (var : Bool) where
   unfolding entryFits
   good a b c = both-true _ _ (le-leb _ _ a) (both-true _ _ (le-leb _ _ b) (lt-ltb _ _ c))
 
-  pub no-room : builder bs ≡ true → n ≤ valueBytes → k ≤ 32767 → lastKey bs < k → tableBytes < endOf bs + 4 + taken n var → NoRoom ≡ pushPlan bs k n var
+  pub no-room : builder bs ≡ true → n ≤ valueBytes → k ≤ 32767 → lastKey bs < k → tableBytes < endOf bs + 4 + valueSize n var → NoRoom ≡ pushPlan bs k n var
   unfolding pushPlan
   no-room a b c d h = rw (a, good b c d, lt-leb _ _ h)
 
-  pub added : builder bs ≡ true → n ≤ valueBytes → k ≤ 32767 → lastKey bs < k → endOf bs + 4 + taken n var ≤ tableBytes → Added ≡ pushPlan bs k n var
+  pub added : builder bs ≡ true → n ≤ valueBytes → k ≤ 32767 → lastKey bs < k → endOf bs + 4 + valueSize n var ≤ tableBytes → Added ≡ pushPlan bs k n var
   unfolding pushPlan
   added a b c d h = rw (a, good b c d, le-leb _ _ h)
 
 -- the four stores, in the code's own numbers
 pub entry-done : (bs : List ℕ) (k n : ℕ) (var : Bool) (count values at size key : ℕ) (b1 b2 b3 out : List ℕ)
-    → count ≡ countOf bs → values ≡ valuesLen bs → at ≡ baseOf bs → size ≡ taken n var → key ≡ flagged k var
+    → count ≡ countOf bs → values ≡ valuesLen bs → at ≡ baseOf bs → size ≡ valueSize n var → key ≡ flagged k var
     → b1 ≡ sets bs 0 (wordBytes (count + 1)) → b2 ≡ sets b1 2 (wordBytes (values + size)) → b3 ≡ sets b2 at (wordBytes key) → out ≡ sets b3 (at + 2) (wordBytes values)
     → out ≡ withEntry bs k n var
 unfolding withEntry
@@ -89,7 +90,7 @@ pub record Adds (bs : List ℕ) (k n : ℕ) (var : Bool) : Type 0 where
   pub ok : builder bs ≡ true
   pub key : k ≤ 32767
   pub above : lastKey bs < k
-  pub room : endOf bs + 4 + taken n var ≤ tableBytes
+  pub room : endOf bs + 4 + valueSize n var ≤ tableBytes
 
 -- an answer Added that the second could not give is the first's
 only-first : (t : Bool) (a b : Pushed) → cond t a b ≡ Added → (b ≡ Added → ⊥) → (t ≡ true) × (a ≡ Added)
@@ -102,7 +103,7 @@ module _ (bs : List ℕ) (k n : ℕ) (var : Bool) where
   adds h =
       let h1 = only-first (builder bs) _ BadBuilder h (λ e. let z : _≡_ {A = ℕ} 0 1 = cc in omega arith) in
       let h2 = only-first (entryFits (lastKey bs) k n) _ BadEntry (h1 .1) (λ e. let z : _≡_ {A = ℕ} 0 1 = cc in omega arith) in
-      let h3 = only-first (leb (endOf bs + 4 + taken n var) tableBytes) _ NoRoom (h2 .1) (λ e. let z : _≡_ {A = ℕ} 0 1 = cc in omega arith) in
+      let h3 = only-first (leb (endOf bs + 4 + valueSize n var) tableBytes) _ NoRoom (h2 .1) (λ e. let z : _≡_ {A = ℕ} 0 1 = cc in omega arith) in
       let f = both-r _ _ (h2 .0) in
       record { ok = h1 .0; key = leb-true _ _ (both-l _ _ f); above = ltb-true _ _ (both-r _ _ f); room = leb-true _ _ (h3 .0) }
 

@@ -35,8 +35,8 @@ unfoldable pub entryFits : ℕ → ℕ → ℕ → Bool
 entryFits last k n = both (leb n valueBytes) (both (leb k 32767) (ltb last k))
 
 -- how many bytes a value takes: a variable one starts with a 2-byte length
-unfoldable pub taken : ℕ → Bool → ℕ
-taken n var = cond var (n + 2) n
+unfoldable pub valueSize : ℕ → Bool → ℕ
+valueSize n var = cond var (n + 2) n
 
 -- a key with 0x8000 set for variable length
 unfoldable pub flagged : ℕ → Bool → ℕ
@@ -46,7 +46,7 @@ flagged k var = cond var (k + 32768) k
 unfoldable pub pushPlan : List ℕ → ℕ → ℕ → Bool → Pushed
 pushPlan bs k n var =
     cond (builder bs)
-    (cond (entryFits (lastKey bs) k n) (cond (leb (endOf bs + 4 + taken n var) tableBytes) Added NoRoom) BadEntry)
+    (cond (entryFits (lastKey bs) k n) (cond (leb (endOf bs + 4 + valueSize n var) tableBytes) Added NoRoom) BadEntry)
     BadBuilder
 
 abbrev pub pushTold : List ℕ → ℕ → ℕ → Bool → Told
@@ -57,7 +57,7 @@ unfoldable pub withEntry : List ℕ → ℕ → ℕ → Bool → List ℕ
 withEntry bs k n var =
     sets
     (sets
-    (sets (sets bs 0 (wordBytes (countOf bs + 1))) 2 (wordBytes (valuesLen bs + taken n var)))
+    (sets (sets bs 0 (wordBytes (countOf bs + 1))) 2 (wordBytes (valuesLen bs + valueSize n var)))
     (baseOf bs)
     (wordBytes (flagged k var)))
     (baseOf bs + 2)

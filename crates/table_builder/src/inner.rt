@@ -4,7 +4,7 @@ ghost use Prim.Native.Nat.{_+_, _≤_, _<_};
 ghost use lib.ListN.{length};
 ghost use Rattle.wire.specs.Size.{tableBytes};
 ghost use Rattle.table_view.specs.Layout.{baseOf, endOf};
-ghost use Rattle.table_builder.specs.Push.{builder, lastKey, taken, flagged, pushPlan, withEntry};
+ghost use Rattle.table_builder.specs.Push.{builder, lastKey, valueSize, flagged, pushPlan, withEntry};
 use crate::Pushed;
 use table_view::Key;
 use table_view::Place;
@@ -37,7 +37,7 @@ fn last_key(b: &[u8]) -> Key
 
 // How many bytes a value takes: a variable one's length takes two.
 pub fn space(n: u16, variable: bool) -> usize
-    ensures { λ r. ⌜ (r ≡ taken n variable) × (r ≤ n + 2) ⌝ }
+    ensures { λ r. ⌜ (r ≡ valueSize n variable) × (r ≤ n + 2) ⌝ }
 {
     if variable { n as usize + 2 } else { n as usize }
 }
@@ -74,7 +74,7 @@ pub fn judge(b: &[u8], key: Key, n: u16, variable: bool) -> Pushed
 
 // The header's two numbers moved, and the entry after the last.
 pub fn add(b: &mut [u8], key: Key, n: u16, variable: bool)
-    requires { ⌜ (4 ≤ length (now b)) × (endOf (now b) + 4 + taken n variable ≤ tableBytes) ⌝ }
+    requires { ⌜ (4 ≤ length (now b)) × (endOf (now b) + 4 + valueSize n variable ≤ tableBytes) ⌝ }
     requires { ⌜ (tableBytes ≤ length (now b)) × (key .0 < 32768) ⌝ }
     ensures { λ _. ⌜ now (b .exit) ≡ withEntry (now (b .entry)) (key .0) n variable ⌝ }
 {

@@ -1,4 +1,5 @@
-// The builder of a client table: entries pushed in ascending order of their keys. A builder is held in the 640 bytes of the table to be.
+// The builder of a client table: entries pushed in ascending order of their keys. A builder is held in the 640 bytes of
+// the table to be.
 pub mod inner;
 
 use table_view::Key;

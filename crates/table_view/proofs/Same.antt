@@ -1,4 +1,5 @@
--- Bytes with the header and the index of an accepted table: its layout is theirs, and with lengths within their room they are a table. Assumes nothing.
+-- Bytes with the header and the index of an accepted table: its layout is theirs, and with lengths within their room
+-- they are a table. Assumes nothing.
 use mathlib.Core.Path.{_≡_, refl, sym, _∙_}
 use mathlib.Core.Bool.{Bool, true, false}
 use mathlib.Core.List.{List}
@@ -11,7 +12,7 @@ use Rattle.wire.specs.Number.{word}
 use Rattle.wire.proofs.Tests.{split}
 use Rattle.wire.proofs.Sets.{part-same}
 use Rattle.table_view.specs.Layout.{countOf, valuesLen, baseOf, endOf, keyAt, varAt, offAt, nextAt, headAt, startAt, capAt, lenAt, valueAt}
-use Rattle.table_view.specs.Rules.{entryOk, indexOk, accepts}
+use Rattle.table_view.specs.Rules.{indexEntryOk, indexOk, accepts}
 use Rattle.table_view.specs.View.{itemAt, itemsFrom, view}
 use Rattle.table_view.proofs.Cases.{head-var, len-var, len-fixed, next-inner, next-last}
 use Rattle.table_view.proofs.Reading.{by-values}
@@ -63,7 +64,7 @@ module _ (bs out : List ℕ) (s : SameIndex bs out) where
     cap-same = omega (arith, count-same, off-same j h, head-same, next-same)
 
   entries-same : (n i k o : ℕ) → i + n ≡ countOf bs → indexOk out n i k o ≡ indexOk bs n i k o
-  unfolding indexOk entryOk
+  unfolding indexOk indexEntryOk
   entries-same zero i k o e = refl
   entries-same (suc n) i k o e =
       let h : i < countOf bs = omega arith in

@@ -1,4 +1,5 @@
--- The lookup by halves and the walk of `specs/Lookup.antt` agree on an accepted table; and what a place that is found has. Assumes nothing.
+-- The lookup by halves and the walk of `specs/Lookup.antt` agree on an accepted table; and what a place that is found
+-- has. Assumes nothing.
 use mathlib.Core.Path.{_≡_, refl, sym}
 use mathlib.Core.Bool.{Bool, true, false, cond}
 use mathlib.Core.List.{List}
@@ -11,10 +12,10 @@ use borrow.Author.Tests.{eq-eqb, ne-eqb, eqb-true}
 use Rattle.wire.proofs.Tests.{split}
 use Rattle.table_view.specs.Layout.{countOf, keyAt}
 use Rattle.table_view.specs.Rules.{accepts}
-use Rattle.table_view.specs.Lookup.{placeFrom, placeOf}
+use Rattle.table_view.specs.Lookup.{placeFrom, indexPlace}
 use Rattle.table_view.specs.declared.Place.{Place}
-use Rattle.table_view.specs.declared.Found.{Found}
-use Rattle.table_view.specs.declared.Found.the-variants.{At, Nothing}
+use Rattle.table_view.specs.declared.Indexed.{Indexed}
+use Rattle.table_view.specs.declared.Indexed.the-variants.{At, Nothing}
 use Rattle.table_view.proofs.Shape.{ascends}
 
 module _ (bs : List ℕ) (k : ℕ) where
@@ -35,14 +36,14 @@ module _ (bs : List ℕ) (k : ℕ) where
   walk-none (suc n) i f =
       rw (ne-eqb _ _ (f i (omega arith))) (walk-none n (suc i) (λ j l. f j (omega arith)))
 
-  pub found : (p : ℕ) → accepts bs ≡ true → p < countOf bs → keyAt bs p ≡ k → At (record { 0 = p }) ≡ placeOf bs k
-  unfolding placeOf
+  pub found : (p : ℕ) → accepts bs ≡ true → p < countOf bs → keyAt bs p ≡ k → At (record { 0 = p }) ≡ indexPlace bs k
+  unfolding indexPlace
   found p ok h e =
       sym (walk-at (countOf bs) 0 p (omega arith) (omega arith) e (λ j l q. let a = ascends bs ok j p l h in omega arith))
 
   -- the index holds no key of 0x8000 or more
-  pub no-high-key : 32768 ≤ k → placeOf bs k ≡ Nothing
-  unfolding placeOf
+  pub no-high-key : 32768 ≤ k → indexPlace bs k ≡ Nothing
+  unfolding indexPlace
   no-high-key h = walk-none (countOf bs) 0 (λ j l e. omega arith)
 
   -- what the halves know: keys below lo are below k, and keys from hi on above it
@@ -71,8 +72,8 @@ module _ (bs : List ℕ) (k : ℕ) where
   down p ok h e j l b =
       ⊎-elim (λ (s : p ≡ j). rw (← s) e) (λ (m : p < j). let a = ascends bs ok p j m b in omega arith) (eq-or-lt-of-le l)
 
-  pub missing : (lo hi : ℕ) → hi ≤ lo → Below lo → Above hi → Nothing ≡ placeOf bs k
-  unfolding placeOf Below Above
+  pub missing : (lo hi : ℕ) → hi ≤ lo → Below lo → Above hi → Nothing ≡ indexPlace bs k
+  unfolding indexPlace Below Above
   missing lo hi le b a =
       sym (walk-none (countOf bs) 0
       (λ j l e.
@@ -81,22 +82,22 @@ module _ (bs : List ℕ) (k : ℕ) where
       (split j lo)))
 
 -- a place that the walk finds is one of the index, and has the key
-pub record Placed (bs : List ℕ) (k i : ℕ) : Type 0 where
+pub record KeyPlaced (bs : List ℕ) (k i : ℕ) : Type 0 where
   pub inside : i < countOf bs
   pub key : keyAt bs i ≡ k
 
 module _ (bs : List ℕ) (k : ℕ) where
-  tested : (i : ℕ) (p : Place) (f : Found) (t : Bool) → i < countOf bs → eqb (keyAt bs i) k ≡ t → cond t (At (record { 0 = i })) f ≡ At p → (f ≡ At p → Placed bs k (p .0)) → Placed bs k (p .0)
+  tested : (i : ℕ) (p : Place) (f : Indexed) (t : Bool) → i < countOf bs → eqb (keyAt bs i) k ≡ t → cond t (At (record { 0 = i })) f ≡ At p → (f ≡ At p → KeyPlaced bs k (p .0)) → KeyPlaced bs k (p .0)
   tested i p f true l t h go =
       let s : i ≡ p .0 = cc in
       rw (← s) (record { inside = l; key = eqb-true _ _ t })
   tested i p f false l t h go = go h
 
-  walked : (n i : ℕ) (p : Place) → i + n ≡ countOf bs → placeFrom bs k n i ≡ At p → Placed bs k (p .0)
+  walked : (n i : ℕ) (p : Place) → i + n ≡ countOf bs → placeFrom bs k n i ≡ At p → KeyPlaced bs k (p .0)
   unfolding placeFrom
   walked zero i p e h = let z : _≡_ {A = ℕ} 0 1 = cc in absurd (omega arith)
   walked (suc n) i p e h = tested i p _ (eqb (keyAt bs i) k) (omega arith) refl h (walked n (suc i) p (omega arith))
 
-  pub placed : (p : Place) → placeOf bs k ≡ At p → Placed bs k (p .0)
-  unfolding placeOf
+  pub placed : (p : Place) → indexPlace bs k ≡ At p → KeyPlaced bs k (p .0)
+  unfolding indexPlace
   placed p h = walked (countOf bs) 0 p (omega arith) h

@@ -1,13 +1,14 @@
-// Where things stand in a client table, the reading rules, and the lookup. Each function asks for as much of the rules as it leans on.
+// Where things stand in a client table, the reading rules, and the lookup. Each function asks for as much of the rules
+// as it leans on.
 ghost use mathlib.Core.Path.{_≡_};
 ghost use mathlib.Core.Bool.{true};
 ghost use Prim.Native.Nat.{_+_, _*_, _≤_, _<_};
 ghost use lib.ListN.{length};
 ghost use Rattle.wire.specs.Number.{word};
 ghost use Rattle.table_view.specs.Layout.{countOf, valuesLen, baseOf, endOf, keyAt, varAt, offAt, nextAt, headAt, startAt, capAt, lenAt, valueAt};
-ghost use Rattle.table_view.specs.Rules.{entryOk, indexOk, valueOk, valuesOk, accepts};
-ghost use Rattle.table_view.specs.Lookup.{placeOf};
-use crate::Found;
+ghost use Rattle.table_view.specs.Rules.{indexEntryOk, indexOk, valueOk, valuesOk, accepts};
+ghost use Rattle.table_view.specs.Lookup.{indexPlace};
+use crate::Indexed;
 use crate::Key;
 use crate::Place;
 
@@ -121,7 +122,7 @@ pub fn value_len(t: &[u8], p: Place) -> usize
 // The entry at p of the index, after one with key `last` and offset `from`.
 fn entry_ok(t: &[u8], p: Place, last: Key, from: usize) -> bool
     requires { ⌜ (baseOf (now t) ≤ length (now t)) × (p .0 < countOf (now t)) ⌝ }
-    ensures { λ r. ⌜ r ≡ entryOk (now (t .entry)) (p .0) (last .0) from ⌝ }
+    ensures { λ r. ⌜ r ≡ indexEntryOk (now (t .entry)) (p .0) (last .0) from ⌝ }
 {
     if key_at(t, p).0 <= last.0 {
         return false;
@@ -204,10 +205,11 @@ pub fn is_table(raw: &[u8]) -> bool
     values_ok(raw)
 }
 
-// The place of a key in the index, by halves. A key of 0x8000 or more has none: the index holds keys without their flag.
-pub fn find(t: &[u8], key: Key) -> Found
+// The place of a key in the index, by halves. A key of 0x8000 or more has none: the index holds keys without their
+// flag.
+pub fn find(t: &[u8], key: Key) -> Indexed
     requires { ⌜ accepts (now t) ≡ true ⌝ }
-    ensures { λ r. ⌜ r ≡ placeOf (now (t .entry)) (key .0) ⌝ }
+    ensures { λ r. ⌜ r ≡ indexPlace (now (t .entry)) (key .0) ⌝ }
 {
     let mut lo = 0;
     let mut hi = number(t, 0);
@@ -215,7 +217,7 @@ pub fn find(t: &[u8], key: Key) -> Found
         let mid = lo + (hi - lo) / 2;
         let k = key_at(t, Place(mid));
         if k.0 == key.0 {
-            return Found::At(Place(mid));
+            return Indexed::At(Place(mid));
         }
         if k.0 < key.0 {
             lo = mid + 1;
@@ -223,7 +225,7 @@ pub fn find(t: &[u8], key: Key) -> Found
             hi = mid;
         }
     }
-    Found::Nothing
+    Indexed::Nothing
 }
 
 // The value at a place.

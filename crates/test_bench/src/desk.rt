@@ -1,10 +1,11 @@
 // The lines of a session, one after another, over the memory that the calls share.
 use crate::calls;
-use crate::memory;
-use crate::memory::Bench;
-use crate::opening;
-use crate::pending;
-use crate::tables;
+use bench_memory::memory;
+use bench_memory::memory::Bench;
+use bench_memory::prepared::LINKS;
+use bench_memory::prepared::Numbers;
+use bench_opening::opening;
+use bench_opening::pending;
 use lines::input;
 use lines::input::Feed;
 use lines::input::Line;
@@ -15,6 +16,9 @@ use wire::least;
 use wire::sizes::PreparedBytes;
 use wire::sizes::RECORD_SIZE;
 use wire::sizes::Record;
+use wire::sizes::SLOT_SIZE;
+use wire::sizes::SLOTS;
+use wire::sizes::SlotBytes;
 use wire::sizes::TABLE_SIZE;
 use wire::sizes::Table;
 use wire::sizes::VALUE_SIZE;
@@ -39,18 +43,38 @@ fn on_hub(
     kept: &[u8],
     list: &mut [Record],
     store: &mut [u8],
+    row: &mut [SlotBytes],
     tables: &mut [Table],
-    data: &mut [PreparedBytes],
+    waiting: &mut [Numbers; LINKS],
+    bytes: &mut [PreparedBytes; LINKS],
     b: Bench,
 ) -> Bench {
     if words::is_call(line, b"open", 0) {
         let n = least(b.pending, pending.len());
         let m = least(b.kept, kept.len());
-        return opening::open(&pending[..n], &kept[..m], list, store, tables, b);
+        return opening::open(
+            &pending[..n],
+            &kept[..m],
+            list,
+            store,
+            row,
+            tables,
+            waiting,
+            b,
+        );
     }
     let n = least(b.entries, list.len());
     let m = least(b.store, store.len());
-    let t = calls::answer(line, &mut list[..n], &mut store[..m], tables, data, b);
+    let t = calls::answer(
+        line,
+        &mut list[..n],
+        &mut store[..m],
+        row,
+        tables,
+        waiting,
+        bytes,
+        b,
+    );
     if !t.known {
         say::no_call();
     }
@@ -66,23 +90,28 @@ fn answer(
     kept: &mut [u8; 4100],
     list: &mut [Record; 65],
     store: &mut [u8; 4100],
-    tables: &mut [Table; 8],
-    data: &mut [PreparedBytes; 16],
+    row: &mut [SlotBytes; SLOTS],
+    tables: &mut [Table; SLOTS],
+    waiting: &mut [Numbers; LINKS],
+    bytes: &mut [PreparedBytes; LINKS],
     b: Bench,
 ) -> Bench {
-    let t = pending::answer(parts::front(line, len), pending, kept, b);
+    let l = parts::front(line, len);
+    let t = pending::answer(l, pending, kept, b);
     let next = t.bench;
     if t.known {
         return next;
     }
     on_hub(
-        parts::front(line, len),
+        l,
         pending,
         kept,
         list,
         store,
+        row,
         tables,
-        data,
+        waiting,
+        bytes,
         b,
     )
 }
@@ -96,7 +125,7 @@ fn is_apart(line: &[u8; 8200], len: usize, builder: &mut Table, table: &mut Tabl
     if echoed(parts::front(line, len)) {
         return true;
     }
-    tables::answer(parts::front(line, len), builder, table)
+    bench_tables::answer(parts::front(line, len), builder, table)
 }
 
 fn next(feed: Feed, chunk: &mut [u8; 65536], line: &mut [u8; 8200]) -> Line {
@@ -111,8 +140,10 @@ pub fn run() {
     let mut kept = [0u8; 4100];
     let mut list = [[0u8; RECORD_SIZE]; 65];
     let mut store = [0u8; 4100];
-    let mut tables = [[0u8; TABLE_SIZE]; 8];
-    let mut data = [[0u8; VALUE_SIZE]; 16];
+    let mut row = [[0u8; SLOT_SIZE]; SLOTS];
+    let mut tables = [[0u8; TABLE_SIZE]; SLOTS];
+    let mut waiting = [[0u16; 3]; LINKS];
+    let mut bytes = [[0u8; VALUE_SIZE]; LINKS];
     let mut builder = [0u8; TABLE_SIZE];
     let mut table = [0u8; TABLE_SIZE];
     let mut b = memory::fresh();
@@ -134,8 +165,10 @@ pub fn run() {
                 &mut kept,
                 &mut list,
                 &mut store,
+                &mut row,
                 &mut tables,
-                &mut data,
+                &mut waiting,
+                &mut bytes,
                 b,
             );
         }

@@ -9,24 +9,24 @@ use lib.Seq.{take-take, drop-drop}
 use Rattle.wire.specs.declared.Found.{Found}
 use Rattle.wire.specs.declared.Found.the-variants.{At, Nothing}
 use Rattle.table_view.specs.Layout.{startAt, lenAt}
-use Rattle.table_view.specs.Lookup.{placeOf}
+use Rattle.table_view.specs.Lookup.{indexPlace}
 use Rattle.table_view.specs.declared.Place.{Place}
-use Rattle.table_view.specs.declared.Found.the-variants.{At as KeyAt, Nothing as NoKey}
+use Rattle.table_view.specs.declared.Indexed.the-variants.{At as KeyAt, Nothing as NoKey}
 use Rattle.attribute.specs.Record.{attributeOf}
 use Rattle.attribute.specs.Needs.{mayRead}
 use Rattle.attribute.specs.declared.Attribute.{Attribute}
 use Rattle.attribute.specs.declared.Link.{Link}
 use Rattle.attribute.specs.declared.Access.the-variants.{Granted, Denied}
-use Rattle.values.specs.declared.Span.{Span}
+use Rattle.values.specs.declared.ValueSpan.{ValueSpan}
 use Rattle.values.specs.declared.Located.the-variants.{Here, Not}
 use Rattle.values.specs.Locate.{ownAt, ownSpan, valueSpan, readSpan, spanAt, sideOf, spanBytes}
 
 module _ (t : List ℕ) (h : ℕ) where
-  pub none-own : placeOf t h ≡ NoKey → Not 0x0A ≡ ownSpan t h
+  pub none-own : indexPlace t h ≡ NoKey → Not 0x0A ≡ ownSpan t h
   unfolding ownSpan ownAt
   none-own e = rw e
 
-  pub one-own : (p : Place) (from n : ℕ) → placeOf t h ≡ KeyAt p → from ≡ startAt t (p .0) → n ≡ lenAt t (p .0) → Here (record { client = true; start = from; len = n }) ≡ ownSpan t h
+  pub one-own : (p : Place) (from n : ℕ) → indexPlace t h ≡ KeyAt p → from ≡ startAt t (p .0) → n ≡ lenAt t (p .0) → Here (record { client = true; start = from; len = n }) ≡ ownSpan t h
   unfolding ownSpan ownAt
   one-own p from n e a b = rw (e, a, b)
 
@@ -63,7 +63,7 @@ cut (suc k) n zero l h = absurd (omega arith)
 cut (suc k) n (suc m) [] h = refl
 cut (suc k) n (suc m) (x ∷ l) h = cut k n m l (omega arith)
 
-module _ (store t : List ℕ) (s : Span) where
+module _ (store t : List ℕ) (s : ValueSpan) where
   module _ (from n : ℕ) (h : from + n ≤ s .len) where
     pub part-client : s .client ≡ true → take n (drop (s .start + from) t) ≡ take n (drop from (spanBytes store t s))
     unfolding spanBytes

@@ -1,5 +1,5 @@
-// The lookup of a value: the handle, the link and the need, the peer's own table, in this order. Readers copy from the span that it answers, and
-// look nowhere else. A peer without a slot is given the table that has no entries.
+// The lookup of a value: the handle, the link and the need, the peer's own table, in this order. Readers copy from the
+// span that it answers, and look nowhere else. A peer without a slot is given the table that has no entries.
 ghost use mathlib.Core.Path.{_≡_};
 ghost use mathlib.Core.Bool.{true};
 ghost use mathlib.Core.List.{[]};
@@ -8,10 +8,11 @@ ghost use lib.ListN.{length, getD, take, drop};
 ghost use Rattle.wire.specs.Cursor.{Wrote};
 ghost use Rattle.table_view.specs.Rules.{accepts};
 ghost use Rattle.attribute.specs.Record.{attributeOf};
-ghost use Rattle.attribute.specs.Lookup.{placeOf, Ascends};
+ghost use Rattle.attribute.specs.Lookup.{placeOf};
+ghost use Rattle.attribute_walk.specs.Walk.{Ascends};
 ghost use Rattle.values.specs.Locate.{ownSpan, valueSpan, readSpan, spanAt, sideOf, spanBytes};
 use crate::Located;
-use crate::Span;
+use crate::ValueSpan;
 use attribute::Access;
 use attribute::Link;
 use table_view::Key;
@@ -25,10 +26,10 @@ fn locate_own(table: &[u8], handle: u16) -> Located
     requires { ⌜ accepts (now table) ≡ true ⌝ }
     ensures { λ r. ⌜ r ≡ ownSpan (now (table .entry)) handle ⌝ }
 {
-    let table_view::Found::At(p) = view::find(table, Key(handle)) else {
+    let table_view::Indexed::At(p) = view::find(table, Key(handle)) else {
         return Located::Not(0x0A);
     };
-    Located::Here(Span {
+    Located::Here(ValueSpan {
         client: true,
         start: view::value_start(table, p),
         len: view::value_len(table, p),
@@ -44,7 +45,7 @@ pub fn locate_value(list: &[Record], table: &[u8], i: usize) -> Located
     if a.client {
         return locate_own(table, a.handle);
     }
-    Located::Here(Span {
+    Located::Here(ValueSpan {
         client: false,
         start: a.start as usize,
         len: a.len as usize,
@@ -67,7 +68,7 @@ pub fn locate(list: &[Record], table: &[u8], link: Link, handle: u16) -> Located
     requires { ⌜ Ascends (now list) × (accepts (now table) ≡ true) ⌝ }
     ensures { λ r. ⌜ r ≡ spanAt link (now (list .entry)) (now (table .entry)) (placeOf (now (list .entry)) handle) ⌝ }
 {
-    let Found::At(i) = attribute::walk::find_listed(list, handle) else {
+    let Found::At(i) = attribute_walk::walk::find_listed(list, handle) else {
         return Located::Not(0x0A);
     };
     locate_at(list, table, link, i)
@@ -88,7 +89,7 @@ pub fn append_span(
     out: &mut [u8],
     store: &[u8],
     table: &[u8],
-    s: Span,
+    s: ValueSpan,
     from: usize,
     n: usize,
 ) -> WriteCursor

@@ -2,7 +2,7 @@
 pub mod inner;
 
 // A value's bytes.
-pub struct Span {
+pub struct ValueSpan {
     pub client: bool,
     pub start: usize,
     pub len: usize,
@@ -10,6 +10,6 @@ pub struct Span {
 
 // A value, or the ATT code that stands for it.
 pub enum Located {
-    Here(Span),
+    Here(ValueSpan),
     Not(u8),
 }

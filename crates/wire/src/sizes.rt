@@ -1,4 +1,5 @@
-// The sizes of what is lent, said once. A table and its slots are as many on every hub; a value has at most as many bytes as a prepared write.
+// The sizes of what is lent, said once. A table and its slots are as many on every hub; a value has at most as many
+// bytes as a prepared write.
 pub const TABLE_SIZE: usize = 640;
 
 pub const RECORD_SIZE: usize = 32;

@@ -1,9 +1,9 @@
-// Runs the worked facts of document 01 on the code and prints what it answers. `specs/Facts.antt` has the starred ones as a proved table.
-mod hub;
+// Runs the worked facts of document 01 on the code and prints what it answers; the library `hub_facts` has those about
+// requests and slots. The crate `facts` has the starred ones as a proved table.
 mod say;
 
-use say::line;
-use say::say;
+use hub_facts::say::line;
+use hub_facts::say::say;
 use say::say_outcome;
 use say::say_pushed;
 use say::say_value;
@@ -43,41 +43,57 @@ fn say_write(t: &Table, offset: usize, d: &[u8]) {
     line();
 }
 
+// 3E1047, and then 3E10, written to key 5.
+fn write_codes(t: &mut Table) {
+    client_att_table::write(t, Key(5), 0, b"3E1047");
+    client_att_table::write(t, Key(5), 0, b"3E10");
+}
+
+fn say_codes(t: &mut Table) {
+    say(b"* T fresh: ");
+    say_bytes(t);
+    line();
+    write_codes(t);
+    say(b"* 3E1047 then 3E10 written to 5: ");
+    say_bytes(t);
+    say(b"; 5 reads ");
+    say_key(t, Key(5));
+    line();
+}
+
+fn say_writes(t: &Table) {
+    say(b"* Then offset 5, nine bytes: ");
+    say_write(t, 5, b"ABCDEFGHI");
+    say(b"* Offset 4, five bytes: ");
+    say_write(t, 4, b"ABCDE");
+    say(b"* Offset 4, four bytes: ");
+    say_write(t, 4, b"ABCD");
+    say(b"* Offset 2, no bytes: ");
+    say_write(t, 2, b"");
+}
+
 fn written_facts() {
     let mut t = table_t();
-    say(b"* T fresh: ");
-    say_bytes(&t);
+    say_codes(&mut t);
+    say_writes(&t);
+}
+
+// Whether saved bytes are a table.
+fn say_saved(raw: &[u8]) {
+    say_outcome(table_view::try_from_raw(raw));
     line();
-    client_att_table::write(&mut t, Key(5), 0, b"3E1047");
-    client_att_table::write(&mut t, Key(5), 0, b"3E10");
-    say(b"* 3E1047 then 3E10 written to 5: ");
-    say_bytes(&t);
-    say(b"; 5 reads ");
-    say_key(&t, Key(5));
-    line();
-    say(b"* Then offset 5, nine bytes: ");
-    say_write(&t, 5, b"ABCDEFGHI");
-    say(b"* Offset 4, five bytes: ");
-    say_write(&t, 4, b"ABCDE");
-    say(b"* Offset 4, four bytes: ");
-    say_write(&t, 4, b"ABCD");
-    say(b"* Offset 2, no bytes: ");
-    say_write(&t, 2, b"");
 }
 
 fn saved_facts() {
-    let empty = [0u8; 4];
     say(b"* Saved 00000000: ");
-    say_outcome(table_view::try_from_raw(&empty));
-    line();
-    let short = [0u8; 3];
+    say_saved(&[0u8; 4]);
     say(b"* Saved 000000: ");
-    say_outcome(table_view::try_from_raw(&short));
-    line();
-    let no_room = [1u8, 0, 1, 0, 1, 0x80, 0, 0, 0];
+    say_saved(&[0u8; 3]);
     say(b"* Saved 010001000180000000: ");
-    say_outcome(table_view::try_from_raw(&no_room));
-    line();
+    say_saved(&[1u8, 0, 1, 0, 1, 0x80, 0, 0, 0]);
+}
+
+fn loose_fact() {
     let loose = [1u8, 0, 3, 0, 1, 0, 2, 0, 0xAA, 0xBB, 0xCC];
     say(b"* Saved 0100030001000200AABBCC: key 1 is ");
     say_value(&loose, table_view::get(&loose, Key(1)));
@@ -105,8 +121,7 @@ fn push_facts() {
 // The table printer, on T after the second fact and on what it refuses.
 fn printer_facts() {
     let mut t = table_t();
-    client_att_table::write(&mut t, Key(5), 0, b"3E1047");
-    client_att_table::write(&mut t, Key(5), 0, b"3E10");
+    write_codes(&mut t);
     print(&t);
     client_att_table::clear(&mut t);
     print(&t);
@@ -121,8 +136,9 @@ fn printer_facts() {
 fn main() {
     written_facts();
     saved_facts();
+    loose_fact();
     push_facts();
-    hub::request_facts();
-    hub::slot_facts();
+    hub_facts::request_facts();
+    hub_facts::slot_facts();
     printer_facts();
 }

@@ -2,22 +2,34 @@
 use mathlib.Core.Path.{_≡_, refl, ap}
 use mathlib.Core.Bool.{true, false}
 use mathlib.Core.List.{List, [], _∷_}
-use Prim.Native.Nat.{ℕ}
-use lib.ListN.{length}
-use borrow.Author.Tests.{eq-eqb, ne-eqb}
+use Prim.Native.Nat.{ℕ, _≤_}
+use lib.ListN.{length, take}
+use lib.Seq.{length-take-le}
+use borrow.Author.Tests.{eq-eqb, ne-eqb, leb-true}
+use Rattle.wire.specs.Size.{valueBytes}
 use Rattle.wire.specs.Test.{both}
 use Rattle.wire.specs.declared.Found.{Found}
+use Rattle.wire.proofs.Tests.{both-l}
 use Rattle.table_view.specs.Told.{Told, value, none}
 use Rattle.attribute.specs.declared.Access.{Access}
 use Rattle.attribute.specs.declared.Access.the-variants.{Granted}
 use Rattle.attribute.specs.declared.Link.{Link}
 use Rattle.state.specs.State.{Becomes}
+use Rattle.state.specs.Valid.{recordOk}
 use Rattle.state.specs.declared.Prepared.{Prepared}
 use Rattle.model.specs.View.{View, Pending, writeAt}
 use Rattle.model.specs.Answer.{isDue, executeAccess, doneRsp, echoRsp, changeTold}
 use Rattle.model.specs.Change.{written, stateAfter, recordAfter, dataAfter, mayPrepare, noRecord}
 use Rattle.model.specs.declared.Change.{Change}
 use Rattle.model.specs.declared.Change.the-variants.{Write, WriteCommand, PrepareWrite, ExecuteWrite}
+
+-- a valid record: at most 512 bytes
+pub record-fits : (p : Prepared) → recordOk p ≡ true → p .len ≤ valueBytes
+unfolding recordOk
+record-fits p h = leb-true _ _ (both-l _ _ h)
+
+pub pending-length : (n : ℕ) (bytes : List ℕ) → n ≤ length bytes → length (take n bytes) ≡ n
+pending-length n bytes h = length-take-le n bytes h
 
 -- what is due
 module _ (w : Pending) (flags : ℕ) where

@@ -1,11 +1,2 @@
-// Write, Write Command, Prepare Write and Execute Write.
+// Write, Write Command and Execute Write; and any of the four that may change something.
 pub mod inner;
-
-use model::Answer;
-use state::Prepared;
-
-// The link's prepared write after a request, with the answer.
-pub struct Changed {
-    pub prepared: Prepared,
-    pub answer: Answer,
-}

@@ -232,6 +232,14 @@ impl Default for Corners {
 }
 
 impl Corners {
+    /// Adds the counts of another run.
+    pub fn add(&mut self, other: &Corners) {
+        let sums = self.valid.iter_mut().zip(&other.valid);
+        for (sum, count) in sums.chain(self.invalid.iter_mut().zip(&other.invalid)) {
+            *sum += count;
+        }
+    }
+
     /// Notes the corners of the state that a call is lent.
     pub fn see(&mut self, hub: &Hub, call: &Call, valid: bool) {
         let view = View {

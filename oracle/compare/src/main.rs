@@ -46,6 +46,8 @@ use random::Random;
 use std::collections::BTreeMap;
 use std::path::PathBuf;
 use std::process::ExitCode;
+use std::sync::atomic::{AtomicUsize, Ordering};
+use std::thread;
 
 struct Options {
     seed: u64,
@@ -81,6 +83,24 @@ impl Totals {
         self.calls += 1;
         let answers = self.answers.entry(word(call)).or_default();
         *answers.entry(sort(call, answer)).or_default() += 1;
+    }
+
+    /// Adds the totals of another part.
+    fn add(&mut self, part: Totals) {
+        self.hubs += part.hubs;
+        self.calls += part.calls;
+        for (call, sorts) in part.answers {
+            add_counts(self.answers.entry(call).or_default(), sorts);
+        }
+        add_counts(&mut self.counts.kinds, part.counts.kinds);
+        self.counts.corners.add(&part.counts.corners);
+        add_counts(&mut self.own_list, part.own_list);
+    }
+}
+
+fn add_counts<K: Ord>(to: &mut BTreeMap<K, u64>, counts: BTreeMap<K, u64>) {
+    for (kind, count) in counts {
+        *to.entry(kind).or_default() += count;
     }
 }
 
@@ -124,13 +144,44 @@ fn ended(result: Result<String, String>) -> ExitCode {
     }
 }
 
-/// The enumerated part, then random hubs until there are as many calls as asked for.
+/// The parts of a run, the longest first. None needs anything of another.
+const PARTS: [Part; 7] = [
+    |_, totals| limits::run(totals),
+    |options, totals| draw(options, totals),
+    |_, totals| orders::run(totals),
+    |_, totals| states::run(totals),
+    |options, totals| own_list::run(options.seed, totals),
+    |_, totals| numbers::run(totals),
+    |_, totals| lent::run(totals),
+];
+
+type Part = fn(&Options, &mut Totals) -> Result<(), Fault>;
+
+/// What is enumerated and what is drawn, as many parts at a time as there are processors.
 fn run(options: &Options, totals: &mut Totals) -> Result<(), Fault> {
-    systematic::run(totals)?;
-    own_list::run(options.seed, totals)?;
-    let enumerated = totals.calls;
+    let next = AtomicUsize::new(0);
+    let work = || {
+        let mut own = Totals::default();
+        while let Some(part) = PARTS.get(next.fetch_add(1, Ordering::Relaxed)) {
+            part(options, &mut own)?;
+        }
+        Ok(own)
+    };
+    let processors = thread::available_parallelism().map_or(1, |n| n.get());
+    thread::scope(|scope| {
+        let workers: Vec<_> = (0..processors).map(|_| scope.spawn(work)).collect();
+        for worker in workers {
+            totals.add(worker.join().expect("a part that ends")?);
+        }
+        Ok(())
+    })
+}
+
+/// Random hubs, until there are as many calls as asked for.
+fn draw(options: &Options, totals: &mut Totals) -> Result<(), Fault> {
+    let last = totals.calls + options.calls;
     let mut seed = options.seed;
-    while totals.calls < enumerated + options.calls {
+    while totals.calls < last {
         run_hub(seed, totals)?;
         seed = seed.wrapping_add(1);
     }

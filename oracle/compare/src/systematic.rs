@@ -1,17 +1,8 @@
-//! The part that is enumerated, not drawn: every corner of the state under every call, every number at the boundary, every
-//! short order of joining and leaving, every offset and length around each limit.
+//! A case of the parts that are enumerated, not drawn (`states`, `lent`, `numbers`, `orders`, `limits`).
 
 use crate::lists::List;
 use crate::pair::{Pair, Step};
-use crate::{lent, limits, numbers, orders, states, Fault, Totals};
-
-pub fn run(totals: &mut Totals) -> Result<(), Fault> {
-    states::run(totals)?;
-    lent::run(totals)?;
-    numbers::run(totals)?;
-    orders::run(totals)?;
-    limits::run(totals)
-}
+use crate::{Fault, Totals};
 
 /// Takes steps on a fresh hub.
 pub fn case(origin: &str, list: &List, steps: &[Step], totals: &mut Totals) -> Result<(), Fault> {

@@ -1,5 +1,7 @@
--- `lent_row::first` meets its contract: a walk of its MIR, by hand. The borrow is looked into once, before the loop, and shut where the function returns. The loop's index says how far it has come, with the invariant: what is left of
--- the walk is the walk. A turn takes one element out of the row, copies it, puts it back, and asks `is_wanted`. Assumes nothing.
+-- `lent_row::first` meets its contract: a walk of its MIR, by hand. The borrow is looked into once, before the loop,
+-- and shut where the function returns. The loop's index says how far it has come, with the invariant: what is left of
+-- the walk is the walk. A turn takes one element out of the row, copies it, puts it back, and asks `is_wanted`. Assumes
+-- nothing.
 use mathlib.Core.Path.{_≡_, refl, sym, _∙_, ap}
 use Prim.Native.Nat.{ℕ, _+_, _-_, _<_, _≤_, _^_}
 use native.Mathlib.Omega.{arith}

@@ -8,7 +8,7 @@ use lib.ListN.{length}
 use Rattle.wire.specs.Size.{tableBytes}
 use Rattle.attribute.specs.Rules.{listOk}
 use Rattle.peers.proofs.Rows.{length-row}
-use Rattle.state.proofs.Answers.{fresh-builder, other-row, other-count, bad-list, too-long, by-slots}
+use Rattle.state.proofs.Answers.{laid-builder, other-row, other-count, bad-list, too-long, by-slots}
 use Rattle.state.proofs.is_valid.Statement.{statement}
 use Rattle.state.proofs.is_valid.Tie as tie
 
@@ -40,7 +40,7 @@ slots-ok-requires c κs =
     let at-if2 = c .before .before .before .before .before .before in
     let at-if1 = at-if2 .before in (
       at-if2 .if2 .left,
-      rw (c .before .before .lay-out .ensures .1 (not-false _ (c .before .if4 .left))) (fresh-builder _),
+      rw (c .before .before .lay-out .ensures .1 (not-false _ (c .before .if4 .left))) (laid-builder _),
       at-if1 .if1 .left,
     )
 

@@ -1,4 +1,5 @@
--- `table_builder::build` meets its contract. The builder's bytes put over the table's, which are as many, are the table (`built`).
+-- `table_builder::build` meets its contract. The builder's bytes put over the table's, which are as many, are the table
+-- (`built`).
 -- Assumes nothing.
 use mathlib.Core.Path.{sym, _∙_}
 use native.Mathlib.Omega.{arith}

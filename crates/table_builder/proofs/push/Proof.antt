@@ -1,4 +1,5 @@
--- `table_builder::push` meets its contract. `judge`'s answer is the plan. An Added one has passed every test, which is what `add` asks for (`adds`), and any other leaves the bytes (`stays`).
+-- `table_builder::push` meets its contract. `judge`'s answer is the plan. An Added one has passed every test, which is
+-- what `add` asks for (`adds`), and any other leaves the bytes (`stays`).
 -- Where the `if let` fails, `keys2` says that the answer is the variant 1, 2 or 3, and Added is 0 (`miss`).
 -- Assumes nothing.
 use mathlib.Core.List.{[], _∷_}

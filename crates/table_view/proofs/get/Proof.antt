@@ -4,10 +4,10 @@ use mathlib.Core.Path.{_≡_, sym, ap, _∙_}
 use native.Mathlib.Omega.{arith}
 use borrow.Author.Needs.{needs}
 use borrow.Author.Tests.{not-true, not-false}
-use Rattle.table_view.specs.Lookup.{placeOf}
+use Rattle.table_view.specs.Lookup.{indexPlace}
 use Rattle.table_view.specs.Read.{toldGot}
 use Rattle.table_view.specs.Rules.{accepts}
-use Rattle.table_view.specs.declared.Found.the-variants.{At}
+use Rattle.table_view.specs.declared.Indexed.the-variants.{At}
 use Rattle.table_view.proofs.Answers.{got-refused, got-nothing, got-value, get-told}
 use Rattle.table_view.proofs.Search.{placed}
 use Rattle.table_view.proofs.Shape.{fits, entry-at}
@@ -22,7 +22,7 @@ ok c = sym (c .before .is-table .ensures) ∙ not-false _ (c .if1 .left)
 
 at : (c : tie.After-p) →
     let at-start = c .before .before .before .before .before .before in
-    placeOf (now (at-start .args .table)) (at-start .args .key .0) ≡ At (c .p .given .0 .0)
+    indexPlace (now (at-start .args .table)) (at-start .args .key .0) ≡ At (c .p .given .0 .0)
 at c = sym (c .before .before .find .ensures) ∙ c .p .given .1
 
 is-table-requires : tie.Need-is-table-requires

@@ -1,11 +1,12 @@
--- `application::inner::get` meets its contract. A law for each answer; a peer without a slot has the empty table. Assumes nothing.
+-- `application::inner::get` meets its contract. A law for each answer; a peer without a slot has the empty table.
+-- Assumes nothing.
 use mathlib.Core.Path.{_≡_, sym, _∙_}
 use native.Mathlib.Omega.{arith}
 use borrow.Author.Needs.{needs}
 use denote.Ref.{now}
 use Rattle.wire.specs.declared.Found.the-variants.{At}
 use Rattle.attribute.specs.Lookup.{placeOf}
-use Rattle.attribute.proofs.Halves.{ascending}
+use Rattle.attribute_walk.proofs.Halves.{ascending}
 use Rattle.model.specs.View.{tableAt}
 use Rattle.model.proofs.Leaving.{listed}
 use Rattle.storing.proofs.Tables.{slot-there, table-there, table-none, own-table, empty-table}

@@ -1,4 +1,5 @@
--- `application::inner::get_client_att_table` meets its contract. By the slot, whose table has 640 bytes. Assumes nothing.
+-- `application::inner::get_client_att_table` meets its contract. By the slot, whose table has 640 bytes. Assumes
+-- nothing.
 use native.Mathlib.Omega.{arith}
 use borrow.Author.Needs.{needs}
 use denote.Ref.{now}

@@ -1,9 +1,10 @@
--- `application::inner::has_bit` meets its contract. By what the lookup finds, and by the length of the value. Assumes nothing.
+-- `application::inner::has_bit` meets its contract. By what the lookup finds, and by the length of the value. Assumes
+-- nothing.
 use mathlib.Core.Path.{_≡_, sym, _∙_}
 use borrow.Author.Needs.{needs}
 use denote.Ref.{now}
-use Rattle.table_view.specs.Lookup.{placeOf}
-use Rattle.table_view.specs.declared.Found.the-variants.{At}
+use Rattle.table_view.specs.Lookup.{indexPlace}
+use Rattle.table_view.specs.declared.Indexed.the-variants.{At}
 use Rattle.table_view.proofs.Search.{placed}
 use Rattle.application.proofs.Peers.{no-value, another-length, two-bytes}
 use Rattle.application.proofs.inner.has_bit.Statement.{statement}
@@ -11,7 +12,7 @@ use Rattle.application.proofs.inner.has_bit.Tie as tie
 
 at : (c : tie.After-p) →
     let at-start = c .before .before .before .before in
-    placeOf (now (at-start .args .table)) (at-start .args .handle) ≡ At (c .p .given .0 .0)
+    indexPlace (now (at-start .args .table)) (at-start .args .handle) ≡ At (c .p .given .0 .0)
 at c = sym (c .before .before .find .ensures) ∙ c .p .given .1
 
 find-requires : tie.Need-find-requires

@@ -1,10 +1,11 @@
--- `application::inner::set` meets its contract. A law for each answer; the place that is found is one of the list. Assumes nothing.
+-- `application::inner::set` meets its contract. A law for each answer; the place that is found is one of the list.
+-- Assumes nothing.
 use mathlib.Core.Path.{_≡_, sym, _∙_}
 use borrow.Author.Needs.{needs}
 use denote.Ref.{now}
 use Rattle.wire.specs.declared.Found.the-variants.{At}
 use Rattle.attribute.specs.Lookup.{placeOf}
-use Rattle.attribute.proofs.Halves.{ascending}
+use Rattle.attribute_walk.proofs.Halves.{ascending}
 use Rattle.model.proofs.Leaving.{listed}
 use Rattle.application.proofs.Calls.{nothing-set, wrong-length, value-set}
 use Rattle.application.proofs.inner.set.Statement.{statement}

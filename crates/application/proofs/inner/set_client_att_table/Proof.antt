@@ -1,4 +1,5 @@
--- `application::inner::set_client_att_table` meets its contract. By the saved table and the slot; one table is lent on. Assumes nothing.
+-- `application::inner::set_client_att_table` meets its contract. By the saved table and the slot; one table is lent on.
+-- Assumes nothing.
 use mathlib.Core.Bool.{true}
 use mathlib.Core.Path.{_≡_, sym, _∙_}
 use native.Mathlib.Omega.{arith}

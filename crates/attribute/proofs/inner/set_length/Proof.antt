@@ -1,4 +1,5 @@
--- `attribute::inner::set_length` meets its contract. By congruence from what `set` ensures of the record that was lent. Assumes nothing.
+-- `attribute::inner::set_length` meets its contract. By congruence from what `set` ensures of the record that was lent.
+-- Assumes nothing.
 use borrow.Author.Needs.{needs}
 use Rattle.attribute.specs.Record.{withLength}
 use Rattle.attribute.proofs.inner.set_length.Statement.{statement}

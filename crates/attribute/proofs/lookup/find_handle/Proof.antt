@@ -1,4 +1,5 @@
--- `attribute::lookup::find_handle` meets its contract. The invariant is residual: what is left of the walk answers as the whole does. A turn, a hit and the end are the walk's laws. Assumes nothing.
+-- `attribute::lookup::find_handle` meets its contract. The invariant is residual: what is left of the walk answers as
+-- the whole does. A turn, a hit and the end are the walk's laws. Assumes nothing.
 use mathlib.Core.List.{[]}
 use mathlib.Core.Path.{_≡_, refl, sym, _∙_}
 use Prim.Native.Nat.{_-_}

@@ -1,4 +1,5 @@
--- `attribute::needs::can` meets its contract. A law for each answer; a place that is found is one of the list. Assumes nothing.
+-- `attribute::needs::can` meets its contract. A law for each answer; a place that is found is one of the list. Assumes
+-- nothing.
 use mathlib.Core.List.{[]}
 use mathlib.Core.Path.{_≡_, sym, _∙_}
 use Prim.Native.Nat.{_<_}

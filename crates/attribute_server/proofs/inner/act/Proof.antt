@@ -1,12 +1,13 @@
--- `attribute_server::inner::act` meets its contract: a refusal leaves everything, and a valid state is ready for the move. Assumes nothing.
+-- `attribute_server::inner::act` meets its contract: a refusal leaves everything, and a valid state is ready for the
+-- move. Assumes nothing.
 use mathlib.Core.Path.{sym, ap, _∙_}
 use native.Mathlib.Omega.{arith}
 use borrow.Author.Needs.{needs}
 use denote.Ref.{now}
 use Rattle.peers.proofs.Rows.{length-row}
-use Rattle.state.specs.State.{State, lent, moved}
+use Rattle.state.specs.State.{State, lent, afterMove}
 use Rattle.state.proofs.Keeping.{tables-read, eight-slots}
-use Rattle.attribute_server.proofs.Admitting.{admitted, told-no, told-yes, left-no, left-yes}
+use Rattle.admission.proofs.Admitting.{admitted, told-no, told-yes, left-no, left-yes}
 use Rattle.attribute_server.proofs.inner.act.Statement.{statement}
 use Rattle.attribute_server.proofs.inner.act.Tie as tie
 
@@ -31,7 +32,7 @@ returns c =
     let d = sym (at-admit .admit .ensures) ∙ c .before .before .a .given .1 in (
       told-no _ _ _ d,
       left-no _ _ _ _ d,
-      ap (λ (s : State). s .tables) (left-no _ _ (was at-start) (moved (was at-start) (at-start .args .m)) d),
+      ap (λ (s : State). s .tables) (left-no _ _ (was at-start) (afterMove (was at-start) (at-start .args .m)) d),
     )
 
 enum-told : tie.Need-enum-told
@@ -57,7 +58,7 @@ returns-2 c =
       rw (c .if1 .taken) (told-yes _ _ d),
       left-yes _ _ _ d,
       c .before .before .settle .ensures ∙ ap (λ (s : State). s .tables)
-          (left-yes _ (was at-start) (moved (was at-start) (at-start .args .m)) d),
+          (left-yes _ (was at-start) (afterMove (was at-start) (at-start .args .m)) d),
     )
 
 same-length-3 : tie.Need-same-length-3
@@ -73,7 +74,7 @@ returns-3 c =
       rw (c .if1 .left) (told-yes _ _ d),
       left-yes _ _ _ d,
       c .before .before .settle .ensures ∙ ap (λ (s : State). s .tables)
-          (left-yes _ (was at-start) (moved (was at-start) (at-start .args .m)) d),
+          (left-yes _ (was at-start) (afterMove (was at-start) (at-start .args .m)) d),
     )
 
 pub act-spec : {M : Type 1} → statement M

@@ -1,4 +1,5 @@
--- `attribute_server::request::process` meets its contract. A request that is refused, and one that is let in: a law for each. Assumes nothing.
+-- `attribute_server::request::process` meets its contract. A request that is refused, and one that is let in: a law for
+-- each. Assumes nothing.
 use mathlib.Core.Path.{sym, _∙_}
 use native.Mathlib.Omega.{arith}
 use lib.ListN.{length}
@@ -10,7 +11,8 @@ use Rattle.state.specs.State.{State, Waiting, lent, waiting}
 use Rattle.model.specs.View.{pendingOf}
 use Rattle.requests.proofs.Given.{told-given, lent-given}
 use Rattle.attribute_server.specs.Request.{Query, query}
-use Rattle.attribute_server.proofs.Admitting.{admitted, ready-given, with-record, without-record, room-enough, request-fits}
+use Rattle.admission.proofs.Admitting.{admitted, room-enough}
+use Rattle.attribute_server.proofs.Admitting.{ready-given, with-record, without-record, request-fits}
 use Rattle.attribute_server.proofs.Processing.{process-refused, process-answered}
 use Rattle.attribute_server.proofs.request.process.Statement.{statement}
 use Rattle.attribute_server.proofs.request.process.Tie as tie

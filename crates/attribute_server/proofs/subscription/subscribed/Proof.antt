@@ -1,5 +1,7 @@
--- `attribute_server::subscription::subscribed` meets its contract. A refusal, or what the peer's own table says. Assumes nothing.
-use Rattle.attribute_server.proofs.Admitting.{admitted, told-no, told-yes, slot-ready}
+-- `attribute_server::subscription::subscribed` meets its contract. A refusal, or what the peer's own table says.
+-- Assumes nothing.
+use Rattle.admission.proofs.Admitting.{admitted, told-no, told-yes}
+use Rattle.attribute_server.proofs.Admitting.{slot-ready}
 use mathlib.Core.Path.{sym, _∙_}
 use borrow.Author.Needs.{needs}
 use Rattle.attribute_server.proofs.subscription.subscribed.Statement.{statement}

@@ -1,5 +1,7 @@
--- `attribute_server::table::get_client_att_table` meets its contract. A refusal leaves the buffer; a valid state's slot can be read. Assumes nothing.
-use Rattle.attribute_server.proofs.Admitting.{admitted, no-answer, yes-answer, slot-ready}
+-- `attribute_server::table::get_client_att_table` meets its contract. A refusal leaves the buffer; a valid state's slot
+-- can be read. Assumes nothing.
+use Rattle.admission.proofs.Admitting.{admitted, no-answer, yes-answer}
+use Rattle.attribute_server.proofs.Admitting.{slot-ready}
 use mathlib.Core.Path.{sym, _∙_}
 use borrow.Author.Needs.{needs}
 use Rattle.attribute_server.proofs.table.get_client_att_table.Statement.{statement}

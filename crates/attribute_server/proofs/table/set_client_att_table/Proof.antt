@@ -1,5 +1,7 @@
--- `attribute_server::table::set_client_att_table` meets its contract. A refusal leaves the tables; a valid state's slot can be written. Assumes nothing.
-use Rattle.attribute_server.proofs.Admitting.{admitted, told-no, told-yes, left-no, left-yes, slot-ready}
+-- `attribute_server::table::set_client_att_table` meets its contract. A refusal leaves the tables; a valid state's slot
+-- can be written. Assumes nothing.
+use Rattle.admission.proofs.Admitting.{admitted, told-no, told-yes, left-no, left-yes}
+use Rattle.attribute_server.proofs.Admitting.{slot-ready}
 use mathlib.Core.Path.{sym, ap, _∙_}
 use mathlib.Core.List.{List}
 use Prim.Native.Nat.{ℕ}

@@ -1,6 +1,6 @@
 -- `attribute_server::value::can` meets its contract. A refusal, or what the list and the link say. Assumes nothing.
 use Rattle.attribute.specs.Needs.{toldAccess}
-use Rattle.attribute_server.proofs.Admitting.{told-no, told-yes}
+use Rattle.admission.proofs.Admitting.{told-no, told-yes}
 use mathlib.Core.Path.{sym, ap, _∙_}
 use borrow.Author.Needs.{needs}
 use Rattle.attribute_server.proofs.value.can.Statement.{statement}

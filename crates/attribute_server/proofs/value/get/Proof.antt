@@ -1,5 +1,7 @@
--- `attribute_server::value::get` meets its contract. A refusal leaves the buffer; a valid state is ready for the call. Assumes nothing.
-use Rattle.attribute_server.proofs.Admitting.{admitted, no-answer, yes-answer, ready}
+-- `attribute_server::value::get` meets its contract. A refusal leaves the buffer; a valid state is ready for the call.
+-- Assumes nothing.
+use Rattle.admission.proofs.Admitting.{admitted, no-answer, yes-answer}
+use Rattle.attribute_server.proofs.Admitting.{ready}
 use mathlib.Core.Path.{sym, _∙_}
 use borrow.Author.Needs.{needs}
 use Rattle.attribute_server.proofs.value.get.Statement.{statement}

@@ -1,7 +1,9 @@
--- `attribute_server::value::set` meets its contract. A refusal leaves every byte; a valid state is ready for the call. Assumes nothing.
+-- `attribute_server::value::set` meets its contract. A refusal leaves every byte; a valid state is ready for the call.
+-- Assumes nothing.
 use denote.Ref.{now}
 use Rattle.peers.specs.Bytes.{rowOf}
-use Rattle.attribute_server.proofs.Admitting.{admitted, told-no, told-yes, left-no, left-yes, ready}
+use Rattle.admission.proofs.Admitting.{admitted, told-no, told-yes, left-no, left-yes}
+use Rattle.attribute_server.proofs.Admitting.{ready}
 use mathlib.Core.Path.{sym, _∙_}
 use borrow.Author.Needs.{needs}
 use Rattle.attribute_server.proofs.value.set.Statement.{statement}

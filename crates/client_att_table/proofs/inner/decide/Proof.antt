@@ -1,9 +1,10 @@
--- `client_att_table::inner::decide` meets its contract. A law for each answer, in the order of the tests. Assumes nothing.
+-- `client_att_table::inner::decide` meets its contract. A law for each answer, in the order of the tests. Assumes
+-- nothing.
 use mathlib.Core.Path.{_≡_, sym, _∙_}
 use native.Mathlib.Omega.{arith}
 use borrow.Author.Needs.{needs}
-use Rattle.table_view.specs.Lookup.{placeOf}
-use Rattle.table_view.specs.declared.Found.the-variants.{At}
+use Rattle.table_view.specs.Lookup.{indexPlace}
+use Rattle.table_view.specs.declared.Indexed.the-variants.{At}
 use Rattle.client_att_table.proofs.Planning.{absent, bad-offset, bad-length, goes-in}
 use Rattle.table_view.proofs.Search.{placed}
 use Rattle.table_view.proofs.Shape.{fits, entry-at}
@@ -13,7 +14,7 @@ use Rattle.client_att_table.proofs.inner.decide.Tie as tie
 
 at : (c : tie.After-p) →
     let at-start = c .before .before .before .before in
-    placeOf (now (at-start .args .t)) (at-start .args .key .0) ≡ At (c .p .given .0 .0)
+    indexPlace (now (at-start .args .t)) (at-start .args .key .0) ≡ At (c .p .given .0 .0)
 at c = sym (c .before .before .find .ensures) ∙ c .p .given .1
 
 find-requires : tie.Need-find-requires

@@ -1,4 +1,5 @@
--- `edge::inner::connect` meets its contract: the walks' finds are the move, the row's bytes are the row. Assumes nothing.
+-- `edge::inner::connect` meets its contract: the walks' finds are the move, the row's bytes are the row. Assumes
+-- nothing.
 use mathlib.Core.Path.{_≡_, sym, ap, _∙_}
 use lib.ListN.{length}
 use denote.Ref.{now}
@@ -9,7 +10,7 @@ use Rattle.peers.specs.declared.Move.{Move}
 use Rattle.state.specs.State.{state}
 use Rattle.attribute_server.specs.Connection.{moveTold, moveLeft}
 use Rattle.attribute_server.proofs.Moving.{join-is, joins-inside}
-use Rattle.edge.specs.Reply.{replyTo}
+use Rattle.numbers.specs.Reply.{replyTo}
 use Rattle.edge.proofs.Joining.{joined}
 use borrow.Author.Needs.{needs}
 use Rattle.edge.proofs.inner.connect.Statement.{statement}

@@ -1,4 +1,5 @@
--- `edge::inner::disconnect` meets its contract: the walk's find is the move, the row's bytes are the row. Assumes nothing.
+-- `edge::inner::disconnect` meets its contract: the walk's find is the move, the row's bytes are the row. Assumes
+-- nothing.
 use mathlib.Core.Path.{_≡_, sym, ap, _∙_}
 use mathlib.Core.List.{List}
 use denote.Ref.{now}
@@ -10,8 +11,8 @@ use Rattle.peers.proofs.Rows.{length-row}
 use Rattle.state.specs.State.{state}
 use Rattle.attribute_server.specs.Connection.{moveTold, moveLeft}
 use Rattle.attribute_server.proofs.Moving.{part-is, found-inside, leaves-inside}
-use Rattle.edge.specs.Reply.{replyTo}
-use Rattle.edge.specs.Asked.{isSet}
+use Rattle.numbers.specs.Reply.{replyTo}
+use Rattle.numbers.specs.Request.{isSet}
 use Rattle.edge.proofs.Joining.{joined}
 use borrow.Author.Needs.{needs}
 use Rattle.edge.proofs.inner.disconnect.Statement.{statement}

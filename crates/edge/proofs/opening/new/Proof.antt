@@ -1,8 +1,9 @@
--- `edge::opening::new` meets its contract. The answer becomes a reply; the state is as `new` leaves it. Assumes nothing.
+-- `edge::opening::new` meets its contract. The answer becomes a reply; the state is as `new` leaves it. Assumes
+-- nothing.
 use mathlib.Core.Path.{sym, ap, _∙_}
 use Rattle.state.specs.Fresh.{toldOpened}
 use Rattle.state.specs.declared.Opened.{Opened}
-use Rattle.edge.specs.Reply.{replyTo}
+use Rattle.numbers.specs.Reply.{replyTo}
 use borrow.Author.Needs.{needs}
 use Rattle.edge.proofs.opening.new.Statement.{statement}
 use Rattle.edge.proofs.opening.new.Tie as tie

@@ -1,4 +1,5 @@
--- `edge::request::process` meets its contract. The link and the request by their numbers; then the answer becomes a reply. Assumes nothing.
+-- `edge::request::process` meets its contract. The link and the request by their numbers; then the answer becomes a
+-- reply. Assumes nothing.
 use Rattle.edge.proofs.Telling.{served}
 use borrow.Author.Needs.{needs}
 use Rattle.edge.proofs.request.process.Statement.{statement}

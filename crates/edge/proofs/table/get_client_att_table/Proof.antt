@@ -1,5 +1,5 @@
 -- `edge::table::get_client_att_table` meets its contract. The answer into the buffer becomes a reply. Assumes nothing.
-use Rattle.edge.proofs.Telling.{copied}
+use Rattle.edge.proofs.Telling.{delivered}
 use borrow.Author.Needs.{needs}
 use Rattle.edge.proofs.table.get_client_att_table.Statement.{statement}
 use Rattle.edge.proofs.table.get_client_att_table.Tie as tie
@@ -11,7 +11,7 @@ reply-requires : tie.Need-reply-requires
 reply-requires c κs = search needs
 
 returns : tie.Need-returns
-returns c = copied _ _ _ _ _ (c .before .get-client-att-table .ensures) (c .reply .ensures)
+returns c = delivered _ _ _ _ _ (c .before .get-client-att-table .ensures) (c .reply .ensures)
 
 pub get-client-att-table-spec : {M : Type 1} → statement M
 get-client-att-table-spec =

@@ -1,5 +1,6 @@
--- `edge::table::set_client_att_table` meets its contract. The answer becomes a reply; the tables are as the server leaves them. Assumes nothing.
-use Rattle.edge.proofs.Telling.{replied}
+-- `edge::table::set_client_att_table` meets its contract. The answer becomes a reply; the tables are as the server
+-- leaves them. Assumes nothing.
+use Rattle.numbers.proofs.Telling.{replied}
 use borrow.Author.Needs.{needs}
 use Rattle.edge.proofs.table.set_client_att_table.Statement.{statement}
 use Rattle.edge.proofs.table.set_client_att_table.Tie as tie

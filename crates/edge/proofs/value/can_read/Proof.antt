@@ -1,5 +1,5 @@
 -- `edge::value::can_read` meets its contract. The answer becomes a reply. Assumes nothing.
-use Rattle.edge.proofs.Telling.{replied}
+use Rattle.numbers.proofs.Telling.{replied}
 use borrow.Author.Needs.{needs}
 use Rattle.edge.proofs.value.can_read.Statement.{statement}
 use Rattle.edge.proofs.value.can_read.Tie as tie

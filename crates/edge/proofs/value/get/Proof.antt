@@ -1,5 +1,5 @@
 -- `edge::value::get` meets its contract. The answer into the buffer becomes a reply. Assumes nothing.
-use Rattle.edge.proofs.Telling.{copied}
+use Rattle.edge.proofs.Telling.{delivered}
 use borrow.Author.Needs.{needs}
 use Rattle.edge.proofs.value.get.Statement.{statement}
 use Rattle.edge.proofs.value.get.Tie as tie
@@ -16,7 +16,7 @@ same-length c = search needs
 returns : tie.Need-returns
 returns c =
     let at-get = c .before .before .before in
-    copied _ _ _ _ _ (at-get .get .ensures) (c .reply .ensures)
+    delivered _ _ _ _ _ (at-get .get .ensures) (c .reply .ensures)
 
 pub get-spec : {M : Type 1} → statement M
 get-spec = tie.close (tie.spec get-requires reply-requires same-length returns)

@@ -1,5 +1,6 @@
--- `edge::value::set` meets its contract. The answer becomes a reply; what is left is as the server leaves it. Assumes nothing.
-use Rattle.edge.proofs.Telling.{replied}
+-- `edge::value::set` meets its contract. The answer becomes a reply; what is left is as the server leaves it. Assumes
+-- nothing.
+use Rattle.numbers.proofs.Telling.{replied}
 use borrow.Author.Needs.{needs}
 use Rattle.edge.proofs.value.set.Statement.{statement}
 use Rattle.edge.proofs.value.set.Tie as tie

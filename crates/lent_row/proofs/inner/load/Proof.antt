@@ -1,4 +1,5 @@
--- `lent_row::inner::load` meets its contract: a walk of its MIR, by hand. A turn copies one element and hands it with the row so far to `with_slot`; the loop's index holds that row. Assumes nothing.
+-- `lent_row::inner::load` meets its contract: a walk of its MIR, by hand. A turn copies one element and hands it with
+-- the row so far to `with_slot`; the loop's index holds that row. Assumes nothing.
 use mathlib.Core.Path.{_≡_, refl, sym, ap, subst}
 use Prim.Native.Nat.{ℕ, _+_, _-_, _<_, _≤_, _^_}
 use native.Mathlib.Omega.{arith}

@@ -1,4 +1,5 @@
--- `peers::inner::part` meets its contract: the slot found lies in the row and is decoded; or there is none. Assumes nothing.
+-- `peers::inner::part` meets its contract: the slot found lies in the row and is decoded; or there is none. Assumes
+-- nothing.
 use mathlib.Core.Path.{_≡_, sym, ap, _∙_}
 use mathlib.Core.Bool.{Bool, false, not}
 use mathlib.Core.List.{List, []}

@@ -1,4 +1,5 @@
--- `peers::inner::put` meets its contract: a store in the row of bytes is one in the row of slots; past the end it is none. Assumes nothing.
+-- `peers::inner::put` meets its contract: a store in the row of bytes is one in the row of slots; past the end it is
+-- none. Assumes nothing.
 use mathlib.Core.Path.{sym, ap, _∙_}
 use native.Mathlib.Omega.{arith}
 use lib.ListN.{set}

@@ -1,4 +1,5 @@
--- `peers::one::encode` meets its contract. The type has six bytes in the address, so the bytes decode to the slot. Assumes nothing.
+-- `peers::one::encode` meets its contract. The type has six bytes in the address, so the bytes decode to the slot.
+-- Assumes nothing.
 use mathlib.Core.Path.{_≡_, refl}
 use lib.ListN.{length}
 use borrow.Author.Needs.{needs}

@@ -1,4 +1,5 @@
--- `peers::who::number` meets its contract: the sums are of seven bytes, of which `wide` tells each. The type has six in the address. Assumes nothing.
+-- `peers::who::number` meets its contract: the sums are of seven bytes, of which `wide` tells each. The type has six in
+-- the address. Assumes nothing.
 use mathlib.Core.Path.{sym, _∙_}
 use Prim.Native.Nat.{ℕ}
 use lib.ListN.{length-map}

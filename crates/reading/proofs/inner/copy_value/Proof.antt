@@ -1,7 +1,8 @@
--- `reading::inner::copy_value` meets its contract. What is located means the value, and as much of it as goes in is copied. Assumes nothing.
+-- `reading::inner::copy_value` meets its contract. What is located means the value, and as much of it as goes in is
+-- copied. Assumes nothing.
 use denote.Ref.{now}
 use mathlib.Core.Path.{ap, _∙_}
-use Rattle.values.specs.Locate.{gotOf}
+use Rattle.values.specs.Locate.{contentsOf}
 use Rattle.values.proofs.Meaning.{value-got, value-inside}
 use Rattle.reading.proofs.Ways.{no-copy, a-copy}
 use native.Mathlib.Omega.{arith}
@@ -39,7 +40,7 @@ append-span-requires c κs =
 returns : tie.Need-returns
 returns c =
     let at-locate-value = c .before .before .before in
-    no-copy _ _ _ _ _ (ap (gotOf _ _) (at-locate-value .locate-value .ensures) ∙ value-got _ _ _) _ (c .before .code .given .1)
+    no-copy _ _ _ _ _ (ap (contentsOf _ _) (at-locate-value .locate-value .ensures) ∙ value-got _ _ _) _ (c .before .code .given .1)
 
 same-length : tie.Need-same-length
 same-length c = search needs
@@ -54,7 +55,7 @@ returns-2 c =
     let a = at-start .args in
     let i = rw (← at-locate-value .locate-value .ensures) at (value-inside (now (a .store)) (now (a .table)) (at-start .pre .1 .table)
     (now (a .list)) (at-start .pre .1 .right) (a .i) (at-start .pre .0)) in
-    a-copy _ _ _ _ _ (ap (gotOf _ _) (at-locate-value .locate-value .ensures) ∙ value-got _ _ _) _ _ _ _ _ (at-s .s .given .1) i
+    a-copy _ _ _ _ _ (ap (contentsOf _ _) (at-locate-value .locate-value .ensures) ∙ value-got _ _ _) _ _ _ _ _ (at-s .s .given .1) i
     (at-least .least .ensures) (at-new .new .ensures .0) (c .before .before .append-span .ensures)
 
 pub copy-value-spec : {M : Type 1} → statement M

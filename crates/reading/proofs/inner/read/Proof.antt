@@ -1,8 +1,9 @@
--- `reading::inner::read` meets its contract. What is located means what the view shows, and from the start on is the whole. Assumes nothing.
+-- `reading::inner::read` meets its contract. What is located means what the view shows, and from the start on is the
+-- whole. Assumes nothing.
 use Rattle.reading.proofs.Ways.{from-start}
 use Rattle.values.proofs.Meaning.{got, inside}
 use borrow.Author.Needs.{needs}
-use Rattle.attribute.proofs.Halves.{ascending}
+use Rattle.attribute_walk.proofs.Halves.{ascending}
 use Rattle.reading.proofs.inner.read.Statement.{statement}
 use Rattle.reading.proofs.inner.read.Tie as tie
 

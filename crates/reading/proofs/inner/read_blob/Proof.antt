@@ -1,7 +1,7 @@
 -- `reading::inner::read_blob` meets its contract. What is located means what the view shows. Assumes nothing.
 use Rattle.values.proofs.Meaning.{got, inside}
 use borrow.Author.Needs.{needs}
-use Rattle.attribute.proofs.Halves.{ascending}
+use Rattle.attribute_walk.proofs.Halves.{ascending}
 use Rattle.reading.proofs.inner.read_blob.Statement.{statement}
 use Rattle.reading.proofs.inner.read_blob.Tie as tie
 

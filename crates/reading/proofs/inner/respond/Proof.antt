@@ -1,4 +1,5 @@
--- `reading::inner::respond` meets its contract. A code, an offset past the end, or the part that goes in: a law for each. Assumes nothing.
+-- `reading::inner::respond` meets its contract. A code, an offset past the end, or the part that goes in: a law for
+-- each. Assumes nothing.
 use Rattle.reading.proofs.Ways.{by-code, in-bytes, past-end, value-part}
 use Rattle.response.proofs.Errors.{one-byte}
 use Rattle.model.proofs.Sending.{sent, sent-as}

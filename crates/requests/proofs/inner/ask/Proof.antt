@@ -2,7 +2,7 @@
 use denote.Ref.{now}
 use Rattle.requests.proofs.Asking.{entries-seen, asks-information, asks-by-type, asks-by-group, asks-read, asks-blob, asks-multiple}
 use native.Mathlib.Omega.{arith}
-use Rattle.attribute.proofs.Halves.{ascending}
+use Rattle.attribute_walk.proofs.Halves.{ascending}
 use Rattle.model.proofs.Sending.{sent-as}
 use borrow.Author.Needs.{needs}
 use Rattle.requests.proofs.inner.ask.Statement.{statement}

@@ -1,5 +1,5 @@
 -- `state::inner::clear_ok` meets its contract. Assumes nothing.
-use Rattle.state.proofs.Columns.{clear-empty, clear-taken}
+use Rattle.state.proofs.Testing.{clear-empty, clear-taken}
 use mathlib.Core.Path.{sym, _∙_}
 use borrow.Author.Needs.{needs}
 use Rattle.state.proofs.inner.clear_ok.Statement.{statement}

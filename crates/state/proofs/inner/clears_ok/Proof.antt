@@ -1,4 +1,5 @@
--- `state::inner::clears_ok` meets its contract. The invariant is residual: the test of the slots that are left is the test of all. Assumes nothing.
+-- `state::inner::clears_ok` meets its contract. The invariant is residual: the test of the slots that are left is the
+-- test of all. Assumes nothing.
 use mathlib.Core.Path.{_≡_, refl, sym, ap, _∙_}
 use mathlib.Core.List.{[]}
 use Prim.Native.Nat.{_≤_, _<_, _-_}
@@ -11,7 +12,7 @@ use Rattle.peers.specs.Bytes.{rowOf}
 use Rattle.peers.specs.Slots.{noSlot}
 use Rattle.peers.specs.declared.Slot.{Slot}
 use Rattle.peers.proofs.Rows.{length-row, row-at}
-use Rattle.state.specs.Tables.{clearOk, clearsOk}
+use Rattle.state.specs.Clear.{clearOk, clearsOk}
 use Rattle.state.proofs.Testing.{next-slot, bad-slot, last-slot}
 use Rattle.state.proofs.inner.clears_ok.Statement.{statement}
 use Rattle.state.proofs.inner.clears_ok.Tie as tie

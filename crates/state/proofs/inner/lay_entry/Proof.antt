@@ -1,4 +1,5 @@
--- `state::inner::lay_entry` meets its contract: a shared value, a client value without room, or one entry more. Assumes nothing.
+-- `state::inner::lay_entry` meets its contract: a shared value, a client value without room, or one entry more. Assumes
+-- nothing.
 use mathlib.Core.Bool.{true, false}
 use mathlib.Core.Path.{_≡_, sym, _∙_}
 use Prim.Native.Nat.{_+_}

@@ -1,4 +1,5 @@
--- `state::inner::lay_out` meets its contract. The invariant: the entries so far are laid out, and pushing those that are left gives the fresh table. Assumes nothing.
+-- `state::inner::lay_out` meets its contract. The invariant: the entries so far are laid out, and pushing those that
+-- are left gives the fresh table. Assumes nothing.
 use mathlib.Core.Bool.{true, false}
 use mathlib.Core.Path.{_≡_, sym, _∙_}
 use Prim.Native.Nat.{_-_}

@@ -1,6 +1,7 @@
--- `state::inner::slots_ok` meets its contract. Each test of all tables follows from the slots' test, and the last decides. Assumes nothing.
+-- `state::inner::slots_ok` meets its contract. Each test of all tables follows from the slots' test, and the last
+-- decides. Assumes nothing.
 use Rattle.state.proofs.Testing.{fronts, tails, values, not-slots, by-clears}
-use Rattle.state.specs.Tables.{every, sized, agrees}
+use Rattle.eight_tables.specs.Tables.{every, sized, agrees}
 use Rattle.table_builder.proofs.Laws.{is-table}
 use Rattle.table_view.proofs.Shape.{long, fits}
 use Rattle.table_view.specs.Layout.{baseOf, endOf}

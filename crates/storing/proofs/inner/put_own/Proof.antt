@@ -1,4 +1,5 @@
--- `storing::inner::put_own` meets its contract. The slot names one of the tables, and one table is lent on. Assumes nothing.
+-- `storing::inner::put_own` meets its contract. The slot names one of the tables, and one table is lent on. Assumes
+-- nothing.
 use mathlib.Core.Path.{ap, _∙_}
 use native.Mathlib.Omega.{arith}
 use borrow.Author.Needs.{needs}

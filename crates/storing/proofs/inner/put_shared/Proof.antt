@@ -1,4 +1,5 @@
--- `storing::inner::put_shared` meets its contract. A write that is granted lies within the value, and the value within the store. Assumes nothing.
+-- `storing::inner::put_shared` meets its contract. A write that is granted lies within the value, and the value within
+-- the store. Assumes nothing.
 use mathlib.Core.Path.{_≡_, sym, _∙_}
 use native.Mathlib.Omega.{arith}
 use lib.ListN.{length}

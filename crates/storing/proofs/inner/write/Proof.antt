@@ -1,4 +1,5 @@
--- `storing::inner::write` meets its contract. A law for each answer; a place that is found is one of the list. Assumes nothing.
+-- `storing::inner::write` meets its contract. A law for each answer; a place that is found is one of the list. Assumes
+-- nothing.
 use mathlib.Core.List.{[]}
 use mathlib.Core.Path.{_≡_, sym, _∙_, ap}
 use Prim.Native.Nat.{_<_}
@@ -10,7 +11,7 @@ use Rattle.attribute.specs.Record.{attributeOf}
 use Rattle.attribute.specs.Lookup.{placeOf}
 use Rattle.attribute.specs.Needs.{mayWrite}
 use Rattle.attribute.specs.declared.Attribute.{Attribute}
-use Rattle.attribute.proofs.Halves.{ascending}
+use Rattle.attribute_walk.proofs.Halves.{ascending}
 use Rattle.model.proofs.Leaving.{listed}
 use Rattle.storing.proofs.Writing.{not-listed, not-met, met}
 use denote.Ref.{now}

@@ -1,4 +1,5 @@
--- `table_builder::inner::add` meets its contract. The four stores, in the code's own numbers, are those of `withEntry` (`entry-done`).
+-- `table_builder::inner::add` meets its contract. The four stores, in the code's own numbers, are those of `withEntry`
+-- (`entry-done`).
 -- Assumes nothing.
 use borrow.Author.Needs.{needs}
 use Rattle.table_builder.proofs.Laws.{entry-done}

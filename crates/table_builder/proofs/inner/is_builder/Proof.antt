@@ -1,4 +1,5 @@
--- `table_builder::inner::is_builder` meets its contract. On a table the last test decides, and the part that it looks at is all that follows the index (`tail`).
+-- `table_builder::inner::is_builder` meets its contract. On a table the last test decides, and the part that it looks
+-- at is all that follows the index (`tail`).
 -- Assumes nothing.
 use mathlib.Core.Bool.{true}
 use mathlib.Core.Path.{_≡_, sym, ap, _∙_}

@@ -2,7 +2,7 @@
 -- Assumes nothing.
 use native.Mathlib.Omega.{arith}
 use borrow.Author.Needs.{needs}
-use Rattle.table_builder.specs.Push.{taken}
+use Rattle.table_builder.specs.Push.{valueSize}
 use Rattle.table_builder.proofs.inner.space.Statement.{statement}
 use Rattle.table_builder.proofs.inner.space.Tie as tie
 
@@ -10,11 +10,11 @@ add-result : tie.Need-add-result
 add-result c = search needs
 
 returns : tie.Need-returns
-unfolding taken
+unfolding valueSize
 returns c = (rw (c .if1 .taken), omega arith)
 
 returns-2 : tie.Need-returns-2
-unfolding taken
+unfolding valueSize
 returns-2 c = (rw (c .if1 .left), omega arith)
 
 pub space-spec : {M : Type 1} → statement M

@@ -1,4 +1,5 @@
--- `table_view::inner::find` meets its contract. A search by halves. The invariant: keys below lo are below the key, and keys from hi on above it.
+-- `table_view::inner::find` meets its contract. A search by halves. The invariant: keys below lo are below the key, and
+-- keys from hi on above it.
 -- Assumes nothing.
 use Prim.Native.Nat.{_-_, _≤_}
 use native.Mathlib.Omega.{arith}

@@ -1,4 +1,4 @@
--- `desk::on_hub` is safe: what is lent of list and store is no longer than they are. Assumes nothing.
+-- `test_bench::desk::on_hub` is safe: what is lent of list and store is no longer than they are. Assumes nothing.
 use native.Mathlib.Omega.{arith}
 use lib.ListN.{length-take}
 use borrow.Author.Needs.{needs}
@@ -35,6 +35,9 @@ same-length-2 c = search needs
 same-length-3 : tie.Need-same-length-3
 same-length-3 c = search needs
 
+same-length-4 : tie.Need-same-length-4
+same-length-4 c = search needs
+
 returns : tie.Need-returns
 returns c = search needs
 
@@ -62,9 +65,6 @@ answer-requires c κs = search needs
 no-call-requires : tie.Need-no-call-requires
 no-call-requires c κs = search needs
 
-same-length-4 : tie.Need-same-length-4
-same-length-4 c = search needs
-
 same-length-5 : tie.Need-same-length-5
 same-length-5 c = search needs
 
@@ -73,6 +73,9 @@ same-length-6 c = search needs
 
 same-length-7 : tie.Need-same-length-7
 same-length-7 c = search needs
+
+same-length-8 : tie.Need-same-length-8
+same-length-8 c = search needs
 
 returns-2 : tie.Need-returns-2
 returns-2 c = search needs
@@ -91,6 +94,7 @@ on-hub-spec =
     same-length
     same-length-2
     same-length-3
+    same-length-4
     returns
     least-requires-3
     least-requires-4
@@ -100,8 +104,8 @@ on-hub-spec =
     slice-aggregate-answer-2
     answer-requires
     no-call-requires
-    same-length-4
     same-length-5
     same-length-6
     same-length-7
+    same-length-8
     returns-2)

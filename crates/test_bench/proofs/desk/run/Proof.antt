@@ -1,16 +1,16 @@
--- `desk::run` is safe and ends: its turns are counted down. Assumes nothing.
-use Prim.Native.Nat.{_≤_}
+-- `test_bench::desk::run` is safe and ends: its turns are counted down. Assumes nothing.
 use borrow.Author.Needs.{needs}
 use native.Mathlib.Omega.{arith}
+use Prim.Native.Nat.{_≤_}
 use Rattle.test_bench.proofs.desk.run.Statement.{statement}
 use Rattle.test_bench.proofs.desk.run.Tie as tie
 
 abbrev Inv-loop : tie.InvT-loop
-Inv-loop chunk₀ line₀ pending₀ kept₀ list₀ store₀ tables₀ data₀ builder₀ table₀ b₀ feed₀ turns₀ chunk line pending kept list store tables «data» builder table b feed turns =
+Inv-loop chunk₀ line₀ pending₀ kept₀ list₀ store₀ row₀ tables₀ waiting₀ bytes₀ builder₀ table₀ b₀ feed₀ turns₀ chunk line pending kept list store row tables waiting bytes builder table b feed turns =
     0 ≤ turns
 
 abbrev μ-loop : tie.MeasureT-loop
-μ-loop chunk₀ line₀ pending₀ kept₀ list₀ store₀ tables₀ data₀ builder₀ table₀ b₀ feed₀ turns₀ chunk line pending kept list store tables «data» builder table b feed turns =
+μ-loop chunk₀ line₀ pending₀ kept₀ list₀ store₀ row₀ tables₀ waiting₀ bytes₀ builder₀ table₀ b₀ feed₀ turns₀ chunk line pending kept list store row tables waiting bytes builder table b feed turns =
     turns
 
 fresh-requires : tie.Need-fresh-requires Inv-loop μ-loop

@@ -1,4 +1,5 @@
--- `text::inner::hex` meets its contract. The loop's invariant is residual: to write what is left of d from here gives what writing all of it gives. Assumes nothing.
+-- `text::inner::hex` meets its contract. The loop's invariant is residual: to write what is left of d from here gives
+-- what writing all of it gives. Assumes nothing.
 use mathlib.Core.Path.{_≡_, refl}
 use Prim.Native.Nat.{_*_, _-_, _≤_}
 use native.Mathlib.Omega.{arith}

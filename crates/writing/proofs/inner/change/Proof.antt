@@ -1,6 +1,5 @@
 -- `writing::inner::change` meets its contract. Each of the four as its handler leaves it. Assumes nothing.
-use Rattle.writing.proofs.Preparing.{record-fits, pending-length}
-use Rattle.writing.proofs.Changing.{write-leaves, command-leaves, execute-leaves, prepare-leaves}
+use Rattle.writing.proofs.Changing.{record-fits, pending-length, write-leaves, command-leaves, execute-leaves, prepare-leaves}
 use Rattle.model.proofs.Sending.{answered, answered-as, silent}
 use Rattle.model.specs.View.{viewOf, tableAt, pendingOf}
 use denote.Ref.{now}

@@ -1,0 +1,4 @@
+pub mod Groups
+pub mod Short
+pub mod Halves
+pub mod Walks

@@ -1,2 +1,0 @@
-// Find Information and Find By Type Value.
-pub mod inner;

@@ -1,0 +1,2 @@
+// Find By Type Value.
+pub mod inner;

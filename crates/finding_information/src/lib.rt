@@ -1,0 +1,2 @@
+// Find Information.
+pub mod inner;

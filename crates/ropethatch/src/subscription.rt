@@ -1,0 +1,42 @@
+// Whether a peer has subscribed: done says yes, nothing no.
+ghost use mathlib.Core.Path.{_≡_};
+ghost use Rattle.state.specs.State.{lent};
+ghost use Rattle.attribute_server.specs.Subscription.{subscribedTold};
+ghost use Rattle.numbers.specs.Reply.{replyTo};
+use numbers::Reply;
+use peers::Identity;
+use wire::sizes::Record;
+use wire::sizes::SlotBytes;
+use wire::sizes::Table;
+
+// To notifications.
+#[no_mangle]
+pub extern "C" fn ropethatch_should_notify(
+    row: &[SlotBytes],
+    list: &[Record],
+    store: &[u8],
+    tables: &[Table],
+    who: Identity,
+    handle: u16,
+) -> Reply
+    ensures { λ r. let s = lent (now (list .entry)) (now (store .entry)) (now (row .entry)) (now (tables .entry)) in
+        ⌜ r ≡ replyTo (subscribedTold s who handle 1) ⌝ }
+{
+    edge::subscription::should_notify(list, store, row, tables, who, handle)
+}
+
+// To indications.
+#[no_mangle]
+pub extern "C" fn ropethatch_should_indicate(
+    row: &[SlotBytes],
+    list: &[Record],
+    store: &[u8],
+    tables: &[Table],
+    who: Identity,
+    handle: u16,
+) -> Reply
+    ensures { λ r. let s = lent (now (list .entry)) (now (store .entry)) (now (row .entry)) (now (tables .entry)) in
+        ⌜ r ≡ replyTo (subscribedTold s who handle 2) ⌝ }
+{
+    edge::subscription::should_indicate(list, store, row, tables, who, handle)
+}
