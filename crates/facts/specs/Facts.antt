@@ -5,18 +5,22 @@ use mathlib.Core.Path.{_≡_}
 use mathlib.Core.Bool.{true, false}
 use mathlib.Core.List.{List, [], _∷_, _++_}
 use lib.ListN.{take, drop, replicate}
-use Rattle.wire.specs.Size.{tableBytes}
+use Rattle.wire.specs.Size.{tableBytes, valueBytes}
 use Rattle.wire.specs.Run.{afterAll}
 use Rattle.table_view.specs.Told.{Told, done, value, refused, att}
 use Rattle.table_view.specs.Read.{readTold, getTold}
 use Rattle.client_att_table.specs.Write.{writeTold, afterWrite}
 use Rattle.table_builder.specs.AsList.{bytesAfter}
 use Rattle.attribute.specs.declared.Link.the-variants.{Plain}
-use Rattle.model.specs.View.{Seen, seenAll}
-use Rattle.model.specs.Answer.{askRsp}
+use Rattle.peers.specs.declared.Identity.{Identity}
+use Rattle.state.specs.State.{State, waiting}
+use Rattle.state.specs.Fresh.{freshState}
+use Rattle.model.specs.Change.{noRecord}
 use Rattle.model.specs.declared.Range.{Range}
 use Rattle.model.specs.declared.Ask.{Ask}
 use Rattle.model.specs.declared.Ask.the-variants.{FindInformation, ReadByType, Read}
+use Rattle.model.specs.declared.Request.the-variants as request
+use Rattle.attribute_server.specs.Request.{query, processTold}
 
 -- T is built from key 3 fixed 2 and key 5 variable 8
 abbrev T : List ℕ
@@ -40,16 +44,19 @@ fact a b = record { computed = a; paper = b }
 abbrev entry : ℕ → ℕ → ℕ → List ℕ
 entry h start len = h ∷ 0 ∷ 20 ∷ 0 ∷ start ∷ 0 ∷ len ∷ 0 ∷ 1 ∷ 1 ∷ 1 ∷ 2 ∷ 7 ∷ 0 ∷ replicate 18 0
 
--- a hub with values of 5, 5 and 6 bytes under handles 1, 2 and 3, as a plain link without a slot sees it
-abbrev seen : List Seen
-seen =
-    seenAll Plain (entry 1 0 5 ∷ entry 2 20 5 ∷ entry 3 40 6 ∷ [])
+-- a fresh hub with values of 5, 5 and 6 bytes under handles 1, 2 and 3
+abbrev class : State
+class =
+    freshState (entry 1 0 5 ∷ entry 2 20 5 ∷ entry 3 40 6 ∷ [])
     ((0x41 ∷ 0x41 ∷ 0x41 ∷ 0x41 ∷ 0x41 ∷ replicate 15 0) ++ (0x42 ∷ 0x42 ∷ 0x42 ∷ 0x42 ∷ 0x42 ∷ replicate 15 0) ++ (0x43 ∷ 0x43 ∷ 0x43 ∷ 0x43 ∷ 0x43 ∷ 0x43 ∷ replicate 14 0))
-    (0 ∷ 0 ∷ 0 ∷ 0 ∷ [])
 
--- what a request is answered, with a buffer of so many bytes
+-- a tablet that has not connected
+abbrev tablet : Identity
+tablet = record { kind = 0; addr = 1 ∷ 0 ∷ 0 ∷ 0 ∷ 0 ∷ 0xC0 ∷ [] }
+
+-- what `process` tells it there over a plain link, with a buffer of so many bytes
 abbrev answered : ℕ → Ask → List ℕ → Told
-answered room rq d = value (askRsp seen room rq d)
+answered room rq d = processTold class (waiting noRecord (replicate valueBytes 0)) (query tablet Plain (request.Ask rq) d) room
 
 abbrev everything : Range
 everything = record { start = 1; end = 0xFFFF }
