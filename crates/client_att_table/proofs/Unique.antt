@@ -17,8 +17,8 @@ module _ (bs : List ℕ) (r r′ : Outcome) (new new′ : List ℕ) where
   one-write k off d = one-left (writeTold bs k off (length d)) (afterWrite bs k off d) r r′ new new′
 
   -- `set_values`
-  pub one-set : (src : List ℕ) → (told r ≡ setTold src bs) × (new ≡ afterSet src bs) → (told r′ ≡ setTold src bs) × (new′ ≡ afterSet src bs) → (r ≡ r′) × (new ≡ new′)
-  one-set src = one-left (setTold src bs) (afterSet src bs) r r′ new new′
+  pub one-set-values : (src : List ℕ) → (told r ≡ setTold src bs) × (new ≡ afterSet src bs) → (told r′ ≡ setTold src bs) × (new′ ≡ afterSet src bs) → (r ≡ r′) × (new ≡ new′)
+  one-set-values src = one-left (setTold src bs) (afterSet src bs) r r′ new new′
 
   -- `clear`
   pub one-clear : (told r ≡ clearTold bs) × (new ≡ afterClear bs) → (told r′ ≡ clearTold bs) × (new′ ≡ afterClear bs) → (r ≡ r′) × (new ≡ new′)
