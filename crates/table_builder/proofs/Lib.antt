@@ -2,3 +2,4 @@ pub mod Laws
 pub mod Clear
 pub mod Grown
 pub mod AsList
+pub mod Unique

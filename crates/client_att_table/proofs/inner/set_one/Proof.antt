@@ -2,9 +2,9 @@
 use mathlib.Core.Path.{sym, _∙_}
 use native.Mathlib.Omega.{arith}
 use borrow.Author.Needs.{needs}
-use Rattle.client_att_table.specs.SetValues.{setOne}
 use Rattle.table_view.proofs.Search.{placed}
 use Rattle.table_view.proofs.Shape.{fits}
+use Rattle.client_att_table.proofs.Taking.{took-found, took-nothing}
 use Rattle.client_att_table.proofs.inner.set_one.Statement.{statement}
 use Rattle.client_att_table.proofs.inner.set_one.Tie as tie
 
@@ -55,25 +55,23 @@ same-length : tie.Need-same-length
 same-length c = search needs
 
 returns : tie.Need-returns
-unfolding setOne
 returns c =
     let at-value = c .before .before .before in
     let at-q = at-value .before .before .before in
     let at-find = at-q .before .before in
     let at-key-at = at-find .before in
-    c .before .before .put-value .ensures
-    ∙ rw (at-value .value .ensures, ← at-key-at .key-at .ensures, ← at-find .find .ensures, at-q .q .given .1)
+    took-found _ _ _ _ _ _ (at-key-at .key-at .ensures) (at-find .find .ensures) _ _ (at-q .q .given .1) (at-value .value .ensures)
+    (c .before .before .put-value .ensures)
 
 same-length-2 : tie.Need-same-length-2
 same-length-2 c = search needs
 
 returns-2 : tie.Need-returns-2
-unfolding setOne
 returns-2 c =
     let at-told = c .before .before .before .before .before in
     let at-find = at-told .before .before in
     let at-key-at = at-find .before in
-    c .before .before .put-value2 .ensures ∙ rw (← at-key-at .key-at .ensures, ← at-find .find .ensures, at-told .enum-told .given .1)
+    took-nothing _ _ _ _ _ _ (at-key-at .key-at .ensures) (at-find .find .ensures) (at-told .enum-told .given .1) (c .before .before .put-value2 .ensures)
 
 pub set-one-spec : {M : Type 1} → statement M
 set-one-spec =
