@@ -279,7 +279,7 @@ fn broken(reply: Reply) -> ! {
     panic!("libropethatch.a is not the library that this crate was written for: it answered {reply:?}")
 }
 
-/// Likewise.
+/// A refusal where the library is proved to give none: see [`always`].
 fn never(refusal: Refusal) -> ! {
     unreachable!("libropethatch.a is not the library that this crate was written for: a valid hub was {refusal}")
 }

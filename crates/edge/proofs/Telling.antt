@@ -1,10 +1,8 @@
--- An answer with a buffer, one to a request, and one that names a part, as replies. Assumes nothing.
-use mathlib.Core.Path.{_≡_, sym, ap, _∙_}
+-- An answer with a buffer, and one to a request, as replies. Assumes nothing.
+use mathlib.Core.Path.{_≡_, ap, _∙_}
 use mathlib.Core.List.{List}
 use Prim.Native.Nat.{ℕ}
 use Rattle.table_view.specs.Told.{Told}
-use Rattle.table_view.specs.Read.{toldGot}
-use Rattle.table_view.specs.declared.Got.{Got}
 use Rattle.model.specs.Told.{Answered}
 use Rattle.model.specs.declared.Answer.{Answer}
 use Rattle.state.specs.State.{State, Waiting}
@@ -20,6 +18,3 @@ delivered old new a r t w q = record { reply = q ∙ told-reply new a ∙ ap rep
 pub served : (s : State) (w : Waiting) (q : Query) (old : List ℕ) (a : Answer) (r : Reply) (s′ : State) (w′ : Waiting) (new : List ℕ)
     → Processed s w q old a s′ w′ new → r ≡ replyOf a → Served s w q old r s′ w′ new
 served s w q old a r s′ w′ new p e = record { answer = delivered old new a r _ (p .answer) e; left = p .left; waits = p .waits }
-
-pub found : (bs : List ℕ) (g h : Got) (t : Told) → g ≡ h → toldGot bs g ≡ t → replyTo (toldGot bs h) ≡ replyTo t
-found bs g h t e w = ap (λ (x : Got). replyTo (toldGot bs x)) (sym e) ∙ ap replyTo w

@@ -47,7 +47,8 @@ pub fn set_client_att_table(
     answer::reply(a)
 }
 
-// How many of these bytes are the saved table: it stands at their start, and what follows is not the table's.
+// How many of these bytes are the saved table: it stands at their start, and what follows is not the table's. A table has
+// an end, so that `raw` never answers that there is none.
 pub fn saved_length(saved: &[u8]) -> Reply
     ensures { λ r. ⌜ r ≡ replyTo (rawTold (now (saved .entry))) ⌝ }
 {

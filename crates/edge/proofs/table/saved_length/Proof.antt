@@ -4,7 +4,7 @@ use mathlib.Core.List.{List}
 use Prim.Native.Nat.{ℕ}
 use lib.ListN.{length}
 use Rattle.numbers.specs.Reply.{asReply}
-use Rattle.edge.proofs.Telling.{found}
+use Rattle.edge.proofs.Finding.{found}
 use borrow.Author.Needs.{needs}
 use Rattle.edge.proofs.table.saved_length.Statement.{statement}
 use Rattle.edge.proofs.table.saved_length.Tie as tie
