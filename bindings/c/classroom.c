@@ -171,6 +171,18 @@ static void expect_refused(const char *what, ropethatch_reply reply, unsigned nu
     expect(what, reply, ROPETHATCH_STATUS_REFUSED, number, "", 0);
 }
 
+/* A saved table, and how much of what was lent it is. Nothing is written. */
+static void expect_length(const char *what, ropethatch_reply reply, size_t len)
+{
+    size_t told = reply.len;
+    reply.len = 0;
+    check(what, reply, ROPETHATCH_STATUS_VALUE, 0, "", 0);
+    if (told != len)
+        fail(what, "another length");
+    printf("%s: %zu bytes\n", what, told);
+    ready();
+}
+
 /* A request that has come in over a link: its opcode, its numbers, and the bytes that it brings. */
 static ropethatch_reply request(struct link *link, uint8_t op, uint16_t handle, uint16_t other, const void *data, size_t data_count)
 {
@@ -286,6 +298,10 @@ int main(void)
     reply = ropethatch_get_client_att_table(HUB, anna, hub.out);
     memcpy(saved, hub.out, sizeof saved);
     expect_value("Anna's table is saved", reply, table, sizeof table);
+    expect_length("so much of it is the table", ropethatch_saved_length(saved, sizeof saved), 24);
+    expect_length("and no byte more is needed", ropethatch_saved_length(saved, 24), 24);
+    expect_refused("one byte less is no table", ropethatch_saved_length(saved, 23), ROPETHATCH_REFUSAL_TABLE);
+    expect_refused("nor is no byte at all", ropethatch_saved_length(ROPETHATCH_NO_BYTES, 0), ROPETHATCH_REFUSAL_TABLE);
     expect_done("Anna's tablet leaves, unbonded", ropethatch_disconnect(HUB, anna, 0));
     expect_value("Anna reads 5", read_request(&hub.anna, CODE), "\x01\x0A\x05\x00\x0A", 5);
     expect_att("the application gets Anna's 5", ropethatch_get(HUB, anna, CODE, hub.out, 8), ROPETHATCH_ATT_NOT_FOUND);
@@ -296,7 +312,7 @@ int main(void)
     expect_done("Anna's tablet connects", ropethatch_connect(HUB, anna));
     expect_value("Anna reads 5", read_request(&hub.anna, CODE), "\x0B", 1);
     expect_refused("three bytes of a table are put back", ropethatch_set_client_att_table(HUB, anna, saved, 3), ROPETHATCH_REFUSAL_TABLE);
-    expect_done("Anna's table is put back", ropethatch_set_client_att_table(HUB, anna, saved, sizeof saved));
+    expect_done("Anna's table is put back", ropethatch_set_client_att_table(HUB, anna, saved, 24));
     expect_value("Anna reads 5", read_request(&hub.anna, CODE), "\x0B" "3E10", 5);
     expect_value("Anna reads 3", read_request(&hub.anna, SUBSCRIPTION), "\x0B\x01\x00", 3);
 

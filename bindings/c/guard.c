@@ -46,7 +46,7 @@ static struct range {
     uint8_t before[LARGEST]; /* what the range held when it was lent */
 } ranges[RANGES];
 
-/* The calls. Those from CONNECT to SET_TABLE are made equally often, see choose_kind. */
+/* The calls. Those from CONNECT to SAVED_LENGTH are made equally often, see choose_kind. */
 enum kind {
     NEW,
     CONNECT,
@@ -59,6 +59,7 @@ enum kind {
     SHOULD_INDICATE,
     GET_TABLE,
     SET_TABLE,
+    SAVED_LENGTH,
     PROCESS,
     KINDS
 };
@@ -92,6 +93,7 @@ static const struct rule {
     [SHOULD_INDICATE] = {"should_indicate", DONE | NOTHING, COMMON, 0, 0},
     [GET_TABLE] = {"get_client_att_table", NOTHING | VALUE, COMMON, 0, 0},
     [SET_TABLE] = {"set_client_att_table", DONE, COMMON | BIT(ROPETHATCH_REFUSAL_TABLE), 0, BIT(TABLES)},
+    [SAVED_LENGTH] = {"saved_length", VALUE, BIT(ROPETHATCH_REFUSAL_TABLE), 0, 0},
     [PROCESS] = {"process", NOTHING | VALUE, COMMON | BIT(ROPETHATCH_REFUSAL_BUFFER), 0,
                  BIT(LIST) | BIT(STORE) | BIT(TABLES) | BIT(PREPARED) | BIT(BYTES)},
 };
@@ -332,7 +334,7 @@ static enum kind choose_kind(void)
     unsigned kind;
     if (one_in(1000))
         return NEW; /* rarely, since it empties the slots */
-    kind = CONNECT + below(16);
+    kind = CONNECT + below(17);
     return kind < PROCESS ? (enum kind)kind : PROCESS;
 }
 
@@ -459,7 +461,7 @@ static void choose_call(void)
     call.handle = choose_handle();
     choose_out();
     choose_data();
-    if (call.kind == SET_TABLE)
+    if (call.kind == SET_TABLE || call.kind == SAVED_LENGTH)
         choose_saved();
     if (call.kind == PROCESS)
         choose_request();
@@ -481,6 +483,8 @@ static ropethatch_reply ask(void)
         return ropethatch_should_notify(HUB, call.who, call.handle);
     case SHOULD_INDICATE:
         return ropethatch_should_indicate(HUB, call.who, call.handle);
+    case SAVED_LENGTH:
+        return ropethatch_saved_length(call.data->at, call.data->size);
     default:
         return ropethatch_get_client_att_table(HUB, call.who, call.out->at);
     }
@@ -523,6 +527,8 @@ static int is_nobody(ropethatch_identity who)
 /* Which of the refusals 1, 2 and 3 must come, or 0. They follow from the arguments alone: the calls have made the state, so it is valid. */
 static unsigned due_refusal(void)
 {
+    if (call.kind == SAVED_LENGTH)
+        return 0; /* it is on no hub */
     if (call.slots_count != ROPETHATCH_SLOTS || call.tables_count != ROPETHATCH_SLOTS)
         return ROPETHATCH_REFUSAL_STATE;
     if (call.kind == PROCESS) {
@@ -534,6 +540,23 @@ static unsigned due_refusal(void)
     if (call.kind != NEW && (call.who.kind > 1 || is_nobody(call.who)))
         return ROPETHATCH_REFUSAL_IDENTITY;
     return 0;
+}
+
+/* The range at whose start are as many bytes as a value has. */
+static const struct range *counted(void)
+{
+    return call.kind == SAVED_LENGTH ? call.data : call.out;
+}
+
+/* A table has a header of 4 bytes, and what stands before its end is the same table. */
+static void check_saved(ropethatch_reply reply)
+{
+    ropethatch_reply again;
+    if (reply.len < 4)
+        fail("a table of less than its header");
+    again = ropethatch_saved_length(call.data->at, reply.len);
+    if (again.status != ROPETHATCH_STATUS_VALUE || again.len != reply.len)
+        fail("the table alone is another");
 }
 
 /* The answer is one that the header has for this call, in every field. */
@@ -560,10 +583,12 @@ static void check_reply(ropethatch_reply reply)
         fail("refused without a reason");
     if (reply.status != ROPETHATCH_STATUS_VALUE && reply.len != 0)
         fail("a length without a value");
-    if (reply.len > call.out->size)
-        fail_at(call.out, "a length above its own");
+    if (reply.len > counted()->size)
+        fail_at(counted(), "a length above its own");
     if (call.kind == GET_TABLE && reply.status == ROPETHATCH_STATUS_VALUE && reply.len != ROPETHATCH_TABLE_SIZE)
         fail("a table of another size");
+    if (call.kind == SAVED_LENGTH && reply.status == ROPETHATCH_STATUS_VALUE)
+        check_saved(reply);
 }
 
 /* Every byte is as it was lent, but for what the call may change where it is not refused, and the value in `out`. */
@@ -572,7 +597,7 @@ static void check_ranges(ropethatch_reply reply)
     unsigned changes = reply.status == ROPETHATCH_STATUS_REFUSED ? 0 : rules[call.kind].changes;
     for (unsigned i = 0; i < RANGES; i++) {
         const struct range *range = &ranges[i];
-        size_t from = range == call.out ? reply.len : 0;
+        size_t from = range == call.out && call.kind != SAVED_LENGTH ? reply.len : 0;
         if (!has(changes, i) && memcmp(range->at + from, range->before + from, range->size - from) != 0)
             fail_at(range, "a byte of it was changed that must stay");
     }

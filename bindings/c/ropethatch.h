@@ -1,4 +1,5 @@
-/* ropethatch.h: the Ropethatch attribute server, called from C or C++. Link with libropethatch.a (x86-64 Linux only; nothing else is needed).
+/* ropethatch.h: the Ropethatch attribute server, called from C11 or C++11. Link with libropethatch.a (x86-64 Linux only). The library needs
+   memcpy and memset, from any C library or your own, and nothing else.
 
    The library allocates nothing and keeps nothing between calls. The hub is yours: you lend its parts to each call, the same ones
    every time, and the call changes them in place. They are
@@ -15,18 +16,21 @@
        `bytes` of ropethatch_process is 512 bytes, `out` of ropethatch_get_client_att_table 640; these have no count.
      - No two ranges that you lend to one call overlap.
      - One call at a time on one hub: there is no lock inside. Calls on different hubs may run at once.
-     - No alignment is needed beyond what the structs below have by themselves.
+     - No alignment is needed beyond what the structs below have by themselves; their sizes and alignments are asserted below.
    Everything else is tested, so that any other input is answered, never undefined.
 
    What a call answers is a ropethatch_reply. Look at its `status` first:
      DONE      the call did it; for a question the answer is yes (YES is the same number, and it is 0: compare, do not use it as a truth)
      NOTHING   there is no answer to send, no such table, or the answer is no (NO is the same number)
      VALUE     `len` bytes stand at the start of the buffer that you lent; `len` may be 0. The bytes after them are as you lent them
+               (saved_length changes none: `len` bytes at the start of what you lent are the table)
      ATT       an ATT error, its code in `code`. Only get, set, can_read and can_write answer this
      REFUSED   the call was refused, the number of the refusal in `code`. Every byte that you lent is as it was
    ropethatch_process never answers ATT: an ATT error is a response of 5 bytes, to be sent like any other, so its status is VALUE.
    Where several refusals apply the lowest number is told, and any refusal comes before an ATT code.
-   Fields that a status does not name are 0. */
+   Fields that a status does not name are 0.
+
+   The header leaves no macro defined but the one against a second inclusion, ROPETHATCH_H. */
 #ifndef ROPETHATCH_H
 #define ROPETHATCH_H
 
@@ -34,10 +38,7 @@
 #include <stdint.h>
 
 #ifdef __cplusplus
-#define ROPETHATCH_SIZE(type, size) static_assert(sizeof(type) == (size), "the size of " #type)
 extern "C" {
-#else
-#define ROPETHATCH_SIZE(type, size) _Static_assert(sizeof(type) == (size), "the size of " #type)
 #endif
 
 /* Sizes. */
@@ -70,7 +71,7 @@ enum {
     ROPETHATCH_REFUSAL_STATE = 1,    /* the list, the store, the slots, the tables or the prepared write are not valid */
     ROPETHATCH_REFUSAL_BUFFER = 2,   /* process: out_count under 23 or over 517, or a Prepare Write value longer than out_count - 5 */
     ROPETHATCH_REFUSAL_IDENTITY = 3, /* the identity is empty (all zeros) or its kind is above 1 */
-    ROPETHATCH_REFUSAL_TABLE = 4,    /* set_client_att_table: the saved bytes are no table */
+    ROPETHATCH_REFUSAL_TABLE = 4,    /* set_client_att_table, saved_length: the saved bytes are no table */
     ROPETHATCH_REFUSAL_SIZE = 6,     /* new: the list's client values would need a table of more than 640 bytes */
     ROPETHATCH_REFUSAL_SLOT = 7,     /* connect: every slot is another, connected tablet's */
     ROPETHATCH_REFUSAL_HANDLE = 8,   /* get, set: the list has no such handle */
@@ -188,20 +189,32 @@ typedef struct ropethatch_table {
     uint8_t bytes[ROPETHATCH_TABLE_SIZE];
 } ropethatch_table;
 
-ROPETHATCH_SIZE(ropethatch_identity, 7);
-ROPETHATCH_SIZE(ropethatch_slot, 8);
-ROPETHATCH_SIZE(ropethatch_prepared, 6);
-ROPETHATCH_SIZE(ropethatch_request, 8);
-ROPETHATCH_SIZE(ropethatch_reply, 16);
-ROPETHATCH_SIZE(ropethatch_record, 32);
-ROPETHATCH_SIZE(ropethatch_table, 640);
+/* The sizes and alignments that the library was compiled for. */
+#ifdef __cplusplus
+#define ROPETHATCH_IS(type, size, alignment)                             \
+    static_assert(sizeof(type) == (size), "the size of " #type);         \
+    static_assert(alignof(type) == (alignment), "the alignment of " #type)
+#else
+#define ROPETHATCH_IS(type, size, alignment)                              \
+    _Static_assert(sizeof(type) == (size), "the size of " #type);         \
+    _Static_assert(_Alignof(type) == (alignment), "the alignment of " #type)
+#endif
+ROPETHATCH_IS(size_t, 8, 8);
+ROPETHATCH_IS(ropethatch_identity, 7, 1);
+ROPETHATCH_IS(ropethatch_slot, 8, 1);
+ROPETHATCH_IS(ropethatch_prepared, 6, 2);
+ROPETHATCH_IS(ropethatch_request, 8, 2);
+ROPETHATCH_IS(ropethatch_reply, 16, 8);
+ROPETHATCH_IS(ropethatch_record, 32, 1);
+ROPETHATCH_IS(ropethatch_table, 640, 1);
+#undef ROPETHATCH_IS
 
-/* A pointer for a call that wants bytes where you have none. It is not NULL; the count beside it is 0. */
-#define ROPETHATCH_NO_BYTES ((const uint8_t *)"")
+/* For a call that wants bytes where you have none: it is not NULL. The count beside it is 0, and its one byte is never looked at. */
+static const uint8_t ROPETHATCH_NO_BYTES[1] = {0};
 
-/* In every call: slots_count and tables_count are 8, list_count is the number of records, store_count the number of bytes in the store.
-   Every call takes the whole hub, also those that need no byte of the store; what is behind a pointer to const is only read.
-   All are refused 1 where what they are lent is not valid. */
+/* In every call on a hub: slots_count and tables_count are 8, list_count is the number of records, store_count the number of bytes in the
+   store. Such a call takes the whole hub, also where it needs no byte of the store; what is behind a pointer to const is only read.
+   All are refused 1 where what they are lent is not valid. The last call, saved_length, is on no hub. */
 
 /* Opens a hub: writes eight empty slots and eight fresh tables for the list. What the slots and tables held before does not matter.
    The store is not touched: set the shared values there before or after.
@@ -270,7 +283,7 @@ ropethatch_reply ropethatch_should_indicate(const ropethatch_slot *slots, size_t
                                             const ropethatch_table *tables, size_t tables_count, ropethatch_identity who,
                                             uint16_t handle);
 
-/* Copies the tablet's table, to be saved.
+/* Copies the tablet's table, to be saved: all of it, or as much as ropethatch_saved_length says.
    VALUE, always of 640 bytes; NOTHING (the tablet has no slot, and out is as lent); REFUSED 1, 3. */
 ropethatch_reply ropethatch_get_client_att_table(const ropethatch_slot *slots, size_t slots_count, const ropethatch_record *list,
                                                  size_t list_count, const uint8_t *store, size_t store_count,
@@ -284,6 +297,11 @@ ropethatch_reply ropethatch_set_client_att_table(const ropethatch_slot *slots, s
                                                  size_t list_count, const uint8_t *store, size_t store_count,
                                                  ropethatch_table *tables, size_t tables_count, ropethatch_identity who,
                                                  const uint8_t *saved, size_t saved_count);
+
+/* How many of these bytes are a saved table: it stands at their start and ends with its values; what follows is not the table's and need
+   not be saved. Nothing is changed. saved may have any length.
+   VALUE, its `len` the number; REFUSED 4 (the bytes are no table). */
+ropethatch_reply ropethatch_saved_length(const uint8_t *saved, size_t saved_count);
 
 #ifdef __cplusplus
 }

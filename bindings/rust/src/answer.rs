@@ -21,7 +21,10 @@ use std::fmt;
 /// assert_eq!(refused.number(), 1);
 /// assert_eq!(refused.to_string(), "refused 1: the attribute list or the lent state is not valid");
 /// ```
+///
+/// Calls to come have refusals of their own, so a `match` on this needs a last arm for the others.
 #[derive(Clone, Copy, Debug, PartialEq, Eq, PartialOrd, Ord, Hash)]
+#[non_exhaustive]
 #[repr(u8)]
 pub enum Refusal {
     /// 1: the attribute list breaks its rules, or the lent state is not valid.
@@ -144,6 +147,7 @@ impl Error for AttError {}
 
 /// Why a call of the application gave no value: it was refused, or the rule for reading or writing says no.
 #[derive(Clone, Copy, Debug, PartialEq, Eq, Hash)]
+#[non_exhaustive]
 pub enum CallError {
     /// The call was refused.
     Refused(Refusal),
@@ -245,9 +249,39 @@ pub(crate) fn value(reply: Reply) -> Result<usize, CallError> {
     }
 }
 
+/// Of a saved table's end: the library finds it, or refuses bytes that are no table.
+pub(crate) fn length(reply: Reply) -> Result<usize, Refusal> {
+    match told_without_att(reply)? {
+        Told::Value(len) => Ok(len),
+        _ => broken(reply),
+    }
+}
+
+/// Of a hub's call that nothing can refuse.
+///
+/// The library is proved to refuse such a call only where the state is not valid (1) or the identity is bad (3), and to
+/// keep a valid state valid: docs/PROMISES.md. A hub has no other state, since the library opens it and nothing else changes
+/// it, and an `Identity` is never a bad one.
+pub(crate) fn always<T>(told: Result<T, Refusal>) -> T {
+    told.unwrap_or_else(|refusal| never(refusal))
+}
+
+/// Of a hub's call that nothing can refuse, but that may tell an ATT code: see [`always`].
+pub(crate) fn unrefused<T>(told: Result<T, CallError>) -> Result<T, AttError> {
+    told.map_err(|error| match error {
+        CallError::Att(error) => error,
+        CallError::Refused(refusal) => never(refusal),
+    })
+}
+
 /// The library is proved never to answer so: another archive has been linked than the one that this crate is for.
 fn broken(reply: Reply) -> ! {
     panic!("libropethatch.a is not the library that this crate was written for: it answered {reply:?}")
+}
+
+/// A refusal where the library is proved to give none: see [`always`].
+fn never(refusal: Refusal) -> ! {
+    unreachable!("libropethatch.a is not the library that this crate was written for: a valid hub was {refusal}")
 }
 
 #[cfg(test)]
@@ -276,6 +310,8 @@ mod tests {
         assert_eq!(yes(reply(1, 0, 0)), Ok(false));
         assert_eq!(written(reply(2, 0, 5)), Ok(Some(5)));
         assert_eq!(written(reply(1, 0, 0)), Ok(None));
+        assert_eq!(length(reply(2, 0, 24)), Ok(24));
+        assert_eq!(length(reply(4, 4, 0)), Err(Refusal::BadTable));
         assert_eq!(value(reply(2, 0, 0)), Ok(0));
         assert_eq!(value(reply(4, 8, 0)), Err(CallError::Refused(Refusal::NoHandle)));
     }
@@ -284,5 +320,24 @@ mod tests {
     #[should_panic(expected = "not the library")]
     fn another_library_is_noticed() {
         let _ = done(reply(3, 1, 0));
+    }
+
+    #[test]
+    fn what_nothing_refuses_is_told_as_it_is() {
+        assert!(always(yes(reply(0, 0, 0))));
+        assert_eq!(unrefused(granted(reply(0, 0, 0))), Ok(()));
+        assert_eq!(unrefused(granted(reply(3, 0x0F, 0))), Err(AttError(0x0F)));
+    }
+
+    #[test]
+    #[should_panic(expected = "not the library")]
+    fn a_hub_that_is_refused_is_another_librarys() {
+        always(done(reply(4, 1, 0)));
+    }
+
+    #[test]
+    #[should_panic(expected = "not the library")]
+    fn a_question_that_is_refused_is_too() {
+        let _ = unrefused(granted(reply(4, 3, 0)));
     }
 }

@@ -259,3 +259,8 @@ pub(crate) fn restore(state: &mut State<'_>, who: Identity, saved: &[u8]) -> Rep
         )
     }
 }
+
+pub(crate) fn saved_length(saved: &[u8]) -> Reply {
+    // SAFETY: non-null and counted, as both come from one slice; nothing is changed.
+    unsafe { ffi::ropethatch_saved_length(saved.as_ptr(), saved.len()) }
+}

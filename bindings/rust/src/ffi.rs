@@ -242,4 +242,6 @@ extern "C" {
         saved: *const u8,
         saved_len: usize,
     ) -> Reply;
+
+    pub fn ropethatch_saved_length(saved: *const u8, saved_len: usize) -> Reply;
 }

@@ -2,7 +2,7 @@
 
 use crate::ffi::{Record, Slot, Table};
 use crate::raw::{Lent, State, SLOTS};
-use crate::{Bond, CallError, Connection, Identity, Link, Refusal, Request, SavedTable};
+use crate::{answer, AttError, Bond, CallError, Connection, Identity, Link, Refusal, Request, SavedTable};
 use std::fmt;
 
 /// The longest value.
@@ -14,7 +14,9 @@ const TOO_LONG: usize = 518;
 /// A classroom hub: it answers what tablets ask, and keeps what they write.
 ///
 /// It owns all the memory that the library works on, and only the library changes it, so that its state is always valid:
-/// no method here is ever refused with [`Refusal::BadState`]. A [`ListBuilder`](crate::ListBuilder) opens one.
+/// no method here is ever refused with [`Refusal::BadState`], nor, since an [`Identity`] is never a bad one, with
+/// [`Refusal::BadPeer`]. What nothing else can refuse gives its answer as it is, without a `Result`. A
+/// [`ListBuilder`](crate::ListBuilder) opens a hub.
 ///
 /// ```
 /// use ropethatch::{AddressKind, Bond, Identity, Link, ListBuilder, Needs, Request, Uuid};
@@ -35,7 +37,7 @@ const TOO_LONG: usize = 518;
 ///
 /// // the short code stands alone, without the old one's tail
 /// assert_eq!(hub.get(ada.who(), 5, &mut out)?, b"3E10");
-/// hub.disconnect(ada, Bond::Bonded)?;
+/// hub.disconnect(ada, Bond::Bonded);
 /// # Ok(())
 /// # }
 /// ```
@@ -79,7 +81,7 @@ impl Hub {
     /// }
     /// assert_eq!(hub.connect(tablet(9)?), Err(Refusal::NoSlot));
     ///
-    /// hub.disconnect(first, Bond::Bonded)?;
+    /// hub.disconnect(first, Bond::Bonded);
     /// assert!(hub.connect(tablet(9)?).is_ok());
     /// # Ok::<(), Refusal>(())
     /// ```
@@ -89,12 +91,8 @@ impl Hub {
     }
 
     /// Ends a connection, and with it what waits on its link. Nothing else changes where the tablet has no slot.
-    ///
-    /// # Errors
-    ///
-    /// None that a hub can give.
-    pub fn disconnect(&mut self, connection: Connection, bond: Bond) -> Result<(), Refusal> {
-        self.state().disconnect(connection.who().into(), bond)
+    pub fn disconnect(&mut self, connection: Connection, bond: Bond) {
+        answer::always(self.state().disconnect(connection.who().into(), bond));
     }
 
     /// Answers a request of a connected tablet.
@@ -189,8 +187,8 @@ impl Hub {
     ///
     /// The ATT code that a tablet would get: 0x01 where there is no such attribute or the link is gone, 0x02 where it can
     /// never be read, 0x0F where the link is not encrypted, 0x05 where it is not authenticated.
-    pub fn can_read(&self, who: Identity, link: Link, handle: u16) -> Result<(), CallError> {
-        self.lent().can_read(who.into(), link, handle)
+    pub fn can_read(&self, who: Identity, link: Link, handle: u16) -> Result<(), AttError> {
+        answer::unrefused(self.lent().can_read(who.into(), link, handle))
     }
 
     /// Whether this link may write this attribute.
@@ -198,38 +196,26 @@ impl Hub {
     /// # Errors
     ///
     /// The ATT code, as in [`can_read`](Hub::can_read), but 0x03 where it can never be written.
-    pub fn can_write(&self, who: Identity, link: Link, handle: u16) -> Result<(), CallError> {
-        self.lent().can_write(who.into(), link, handle)
+    pub fn can_write(&self, who: Identity, link: Link, handle: u16) -> Result<(), AttError> {
+        answer::unrefused(self.lent().can_write(who.into(), link, handle))
     }
 
     /// Whether a tablet wants notifications: bit 0 of its own value at this handle, where that is a client value of
     /// exactly 2 bytes.
-    ///
-    /// # Errors
-    ///
-    /// None that a hub can give.
-    pub fn should_notify(&self, who: Identity, handle: u16) -> Result<bool, Refusal> {
-        self.lent().should_notify(who.into(), handle)
+    pub fn should_notify(&self, who: Identity, handle: u16) -> bool {
+        answer::always(self.lent().should_notify(who.into(), handle))
     }
 
     /// Whether a tablet wants indications: bit 1, as in [`should_notify`](Hub::should_notify).
-    ///
-    /// # Errors
-    ///
-    /// None that a hub can give.
-    pub fn should_indicate(&self, who: Identity, handle: u16) -> Result<bool, Refusal> {
-        self.lent().should_indicate(who.into(), handle)
+    pub fn should_indicate(&self, who: Identity, handle: u16) -> bool {
+        answer::always(self.lent().should_indicate(who.into(), handle))
     }
 
     /// The values that are kept for a tablet, for keeping elsewhere. `None` where the tablet has no slot.
-    ///
-    /// # Errors
-    ///
-    /// None that a hub can give.
-    pub fn client_table(&self, who: Identity) -> Result<Option<SavedTable>, Refusal> {
+    pub fn client_table(&self, who: Identity) -> Option<SavedTable> {
         let mut out = [0; 640];
-        let table = self.lent().client_table(who.into(), &mut out)?;
-        Ok(table.map(SavedTable::of))
+        let table = answer::always(self.lent().client_table(who.into(), &mut out));
+        table.map(SavedTable::of)
     }
 
     /// Puts saved values into a tablet's slot, handle by handle. What the saved table lacks becomes clear, and what the hub

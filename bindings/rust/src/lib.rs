@@ -31,8 +31,8 @@
 //! assert_eq!(hub.process(&mut tablet, Link::Plain, read, &mut out)?, Some(&b"\x0B3E1047"[..]));
 //!
 //! assert_eq!(hub.get_to_vec(who, CODE)?, b"3E1047");
-//! assert!(!hub.should_notify(who, SUBSCRIPTION)?);
-//! hub.disconnect(tablet, Bond::Unbonded)?;
+//! assert!(!hub.should_notify(who, SUBSCRIPTION));
+//! hub.disconnect(tablet, Bond::Unbonded);
 //! # Ok(())
 //! # }
 //! ```
@@ -40,7 +40,10 @@
 //! # Refusals and errors
 //!
 //! A call with bad arguments is *refused* by a number and changes nothing: [`Refusal`]. An *ATT error* is an answer to the
-//! tablet: in [`Hub::process`] it is a response of five bytes, in the application's calls it is an [`AttError`].
+//! tablet: in [`Hub::process`] it is a response of five bytes, in the application's calls it is an [`AttError`]. A call that
+//! may end in both ways has a [`CallError`], and one that can't fail has no `Result`.
+//!
+//! No value is shown by `{:?}`, only how many there are and how long they are: a pupil's code does not land in a log.
 //!
 //! # What is proved, and what is not
 //!

@@ -2,6 +2,7 @@
 
 use crate::ffi::Record;
 use crate::{Hub, Refusal};
+use std::fmt;
 
 /// An attribute's type: 16 bits, or 128.
 ///
@@ -116,7 +117,7 @@ const CLIENT: u8 = 2;
 /// # let _ = (classroom, library);
 /// # Ok::<(), ropethatch::Refusal>(())
 /// ```
-#[derive(Clone, Debug, Default)]
+#[derive(Clone, Default)]
 pub struct ListBuilder {
     records: Vec<Record>,
     store: Vec<u8>,
@@ -209,6 +210,16 @@ impl ListBuilder {
     fn push(&mut self, entry: Entry) -> &mut Self {
         self.records.push(entry.record());
         self
+    }
+}
+
+/// Shows how many attributes there are and how long the store is, and no value.
+impl fmt::Debug for ListBuilder {
+    fn fmt(&self, f: &mut fmt::Formatter<'_>) -> fmt::Result {
+        f.debug_struct("ListBuilder")
+            .field("attributes", &self.records.len())
+            .field("store", &self.store.len())
+            .finish_non_exhaustive()
     }
 }
 

@@ -133,7 +133,8 @@ pub enum Bond {
 
 /// What waits on a link for Execute Write: a handle, an offset and up to 512 bytes.
 ///
-/// It is always one that the library accepts: only requests change it. See [`Connection::prepared`].
+/// It is always one that the library accepts: only requests change it. See [`Connection::prepared`]. A copy of it shows what
+/// waited then; it can't be put on a link.
 #[derive(Clone, PartialEq, Eq)]
 pub struct Prepared {
     pub(crate) record: ffi::Prepared,
@@ -190,7 +191,15 @@ impl fmt::Debug for Prepared {
 /// A tablet's connection: who it is, and what waits on its link.
 ///
 /// [`Hub::connect`](crate::Hub::connect) gives one, [`Hub::process`](crate::Hub::process) takes it with each request, and
-/// [`Hub::disconnect`](crate::Hub::disconnect) ends it, so that a prepared write never outlives its connection.
+/// [`Hub::disconnect`](crate::Hub::disconnect) takes it for good. There is no copy of it, so that a prepared write never
+/// outlives its connection:
+///
+/// ```compile_fail,E0599
+/// # use ropethatch::Connection;
+/// fn twice(ada: Connection) -> [Connection; 2] {
+///     [ada.clone(), ada]
+/// }
+/// ```
 ///
 /// ```
 /// use ropethatch::{AddressKind, Identity, Link, ListBuilder, Needs, Request, Uuid};
@@ -212,7 +221,7 @@ impl fmt::Debug for Prepared {
 /// # Ok(())
 /// # }
 /// ```
-#[derive(Clone, Debug, PartialEq, Eq)]
+#[derive(Debug, PartialEq, Eq)]
 pub struct Connection {
     who: Identity,
     pub(crate) prepared: Prepared,

@@ -37,12 +37,32 @@
 pub use crate::ffi::{Identity, Prepared, Record, Slot, Table};
 
 use crate::{answer, calls, Bond, CallError, Link, Refusal, Request};
+use std::fmt;
 
 /// How many slots a valid state has, and how many tables.
 pub const SLOTS: usize = 8;
 
+/// How many of these bytes are a saved table: it stands at their start, and what follows is not the table's.
+///
+/// ```
+/// use ropethatch::raw::saved_length;
+/// use ropethatch::Refusal;
+///
+/// let table = [1, 0, 1, 0, 5, 0, 0, 0, 7]; // handle 5 has a fixed value of one byte, 7
+/// assert_eq!(saved_length(&table), Ok(9));
+/// assert_eq!(saved_length(&[&table[..], b"not the table's"].concat()), Ok(9));
+/// assert_eq!(saved_length(&table[..8]), Err(Refusal::BadTable));
+/// ```
+///
+/// # Errors
+///
+/// Refusal 4 where the bytes are no table.
+pub fn saved_length(saved: &[u8]) -> Result<usize, Refusal> {
+    answer::length(calls::saved_length(saved))
+}
+
 /// The memory of a hub, lent: four ranges that are apart, which four `&mut` always are.
-#[derive(Debug, PartialEq, Eq)]
+#[derive(PartialEq, Eq)]
 pub struct State<'a> {
     /// Who holds which place. A valid state has eight.
     pub slots: &'a mut [Slot],
@@ -179,6 +199,18 @@ impl State<'_> {
             store: self.store,
             tables: self.tables,
         }
+    }
+}
+
+/// Shows whose the slots are and how much is lent, and no value: they may be pupils'.
+impl fmt::Debug for State<'_> {
+    fn fmt(&self, f: &mut fmt::Formatter<'_>) -> fmt::Result {
+        f.debug_struct("State")
+            .field("slots", &self.slots)
+            .field("attributes", &self.list.len())
+            .field("store", &self.store.len())
+            .field("tables", &self.tables.len())
+            .finish_non_exhaustive()
     }
 }
 

@@ -1,6 +1,7 @@
 //! Requests, already decoded.
 
 use crate::ffi;
+use std::fmt;
 
 /// A request of a tablet, with the bytes that it brings. What the words mean is the Attribute Protocol's.
 ///
@@ -13,8 +14,12 @@ use crate::ffi;
 /// let code = Uuid::short(0xFF01);
 /// let request = Request::ReadByType { start: 1, end: 0xFFFF, uuid: code.as_bytes() };
 /// assert_eq!(request.opcode(), 0x08);
+/// assert_eq!(format!("{request:?}"), "ReadByType { start: 1, end: 65535, uuid: 2 bytes }");
 /// ```
-#[derive(Clone, Copy, Debug, PartialEq, Eq, Hash)]
+///
+/// More requests come, so a `match` on this needs a last arm for the others.
+#[derive(Clone, Copy, PartialEq, Eq, Hash)]
+#[non_exhaustive]
 pub enum Request<'a> {
     /// 0x02. Never answered here: the link layer settles the MTU.
     ExchangeMtu {
@@ -156,5 +161,64 @@ impl<'a> Request<'a> {
             uuid,
         };
         (request, data)
+    }
+}
+
+/// Shows the numbers of a request and how many bytes it brings, and not which: they may be a pupil's.
+impl fmt::Debug for Request<'_> {
+    fn fmt(&self, f: &mut fmt::Formatter<'_>) -> fmt::Result {
+        let range = |start, end| [("start", start), ("end", end)];
+        match *self {
+            Request::ExchangeMtu { mtu } => show(f, "ExchangeMtu", &[("mtu", mtu)], None),
+            Request::FindInformation { start, end } => show(f, "FindInformation", &range(start, end), None),
+            Request::FindByTypeValue {
+                start,
+                end,
+                uuid,
+                value,
+            } => {
+                let numbers = [("start", start), ("end", end), ("uuid", uuid)];
+                show(f, "FindByTypeValue", &numbers, Some(("value", value)))
+            }
+            Request::ReadByType { start, end, uuid } => show(f, "ReadByType", &range(start, end), Some(("uuid", uuid))),
+            Request::Read { handle } => show(f, "Read", &[("handle", handle)], None),
+            Request::ReadBlob { handle, offset } => {
+                show(f, "ReadBlob", &[("handle", handle), ("offset", offset)], None)
+            }
+            Request::ReadMultiple { handles } => show(f, "ReadMultiple", &[], Some(("handles", handles))),
+            Request::ReadByGroupType { start, end, uuid } => {
+                show(f, "ReadByGroupType", &range(start, end), Some(("uuid", uuid)))
+            }
+            Request::Write { handle, value } => show(f, "Write", &[("handle", handle)], Some(("value", value))),
+            Request::PrepareWrite { handle, offset, value } => {
+                let numbers = [("handle", handle), ("offset", offset)];
+                show(f, "PrepareWrite", &numbers, Some(("value", value)))
+            }
+            Request::ExecuteWrite { flags } => show(f, "ExecuteWrite", &[("flags", flags.into())], None),
+            Request::WriteCommand { handle, value } => {
+                show(f, "WriteCommand", &[("handle", handle)], Some(("value", value)))
+            }
+            Request::Confirmation => show(f, "Confirmation", &[], None),
+        }
+    }
+}
+
+fn show(f: &mut fmt::Formatter<'_>, name: &str, numbers: &[(&str, u16)], bytes: Option<(&str, &[u8])>) -> fmt::Result {
+    let mut shown = f.debug_struct(name);
+    for (field, number) in numbers {
+        shown.field(field, number);
+    }
+    if let Some((field, bytes)) = bytes {
+        shown.field(field, &Count(bytes.len()));
+    }
+    shown.finish()
+}
+
+/// How many bytes there are, in place of the bytes.
+struct Count(usize);
+
+impl fmt::Debug for Count {
+    fn fmt(&self, f: &mut fmt::Formatter<'_>) -> fmt::Result {
+        write!(f, "{} bytes", self.0)
     }
 }

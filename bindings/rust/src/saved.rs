@@ -1,10 +1,12 @@
 //! A tablet's values, to be kept over a restart.
 
 use crate::ffi::Table;
+use crate::{answer, calls};
+use std::fmt;
 
 /// The client table of a tablet, as bytes for keeping.
 ///
-/// [`Hub::client_table`](crate::Hub::client_table) gives one, up to the end of its values.
+/// [`Hub::client_table`](crate::Hub::client_table) gives one, up to the end of its values, which the library finds.
 /// [`Hub::restore`](crate::Hub::restore) takes one back, and it is the library that says there whether the bytes are a
 /// table: any bytes can be put into this type.
 ///
@@ -18,7 +20,7 @@ use crate::ffi::Table;
 /// let mut hub = list.build()?;
 /// hub.connect(ada)?;
 /// hub.set(ada, 5, b"3E10")?;
-/// let kept: Vec<u8> = hub.client_table(ada)?.expect("ada has a slot").into_bytes();
+/// let kept: Vec<u8> = hub.client_table(ada).expect("ada has a slot").into_bytes();
 ///
 /// let mut hub = list.build()?;
 /// hub.connect(ada)?;
@@ -27,7 +29,7 @@ use crate::ffi::Table;
 /// # Ok(())
 /// # }
 /// ```
-#[derive(Clone, Debug, PartialEq, Eq, Hash)]
+#[derive(Clone, PartialEq, Eq, Hash)]
 pub struct SavedTable(Vec<u8>);
 
 impl SavedTable {
@@ -46,9 +48,11 @@ impl SavedTable {
         self.0
     }
 
-    /// The part of a table up to the end of its values, which is the same table.
+    /// The part of a hub's table up to the end of its values, which is the same table. In a valid state every table is one,
+    /// so the library is proved not to refuse it.
     pub(crate) fn of(table: &Table) -> SavedTable {
-        SavedTable(table[..end(table)].to_vec())
+        let end = answer::always(answer::length(calls::saved_length(table)));
+        SavedTable(table[..end].to_vec())
     }
 }
 
@@ -58,26 +62,11 @@ impl AsRef<[u8]> for SavedTable {
     }
 }
 
-/// Where a table's values end: after the header's 4 bytes, 4 for each entry, and the values.
-fn end(table: &Table) -> usize {
-    let entries = u16::from_le_bytes([table[0], table[1]]);
-    let values = u16::from_le_bytes([table[2], table[3]]);
-    let end = 4 + 4 * usize::from(entries) + usize::from(values);
-    end.min(table.len())
-}
-
-#[cfg(test)]
-mod tests {
-    use super::*;
-
-    #[test]
-    fn a_table_ends_with_its_values() {
-        let mut table = [0; 640];
-        assert_eq!(end(&table), 4);
-        table[0] = 2;
-        table[2] = 12;
-        assert_eq!(end(&table), 24);
-        table[3] = 0xFF;
-        assert_eq!(end(&table), 640);
+/// Shows how long the table is, and no value: they may be a pupil's.
+impl fmt::Debug for SavedTable {
+    fn fmt(&self, f: &mut fmt::Formatter<'_>) -> fmt::Result {
+        f.debug_struct("SavedTable")
+            .field("len", &self.0.len())
+            .finish_non_exhaustive()
     }
 }

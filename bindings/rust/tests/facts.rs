@@ -31,7 +31,7 @@ fn t_with_code() -> (Hub, Connection) {
 }
 
 fn table(hub: &Hub) -> Vec<u8> {
-    hub.client_table(tablet(1)).unwrap().unwrap().into_bytes()
+    hub.client_table(tablet(1)).unwrap().into_bytes()
 }
 
 fn five(hub: &Hub) -> Vec<u8> {

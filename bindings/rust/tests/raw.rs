@@ -3,7 +3,7 @@
 mod common;
 
 use common::{ABSENT, CODE, LENT, NAME, SEAT};
-use ropethatch::raw::{Identity, Prepared, Record, Slot, State, Table};
+use ropethatch::raw::{saved_length, Identity, Prepared, Record, Slot, State, Table};
 use ropethatch::{AttError, Bond, CallError, Link, Refusal, Request};
 
 const ADA: Identity = Identity {
@@ -125,6 +125,7 @@ fn refusal(answer: Result<(), CallError>) -> Option<Refusal> {
     match answer {
         Err(CallError::Refused(refusal)) => Some(refusal),
         Ok(()) | Err(CallError::Att(_)) => None,
+        Err(other) => panic!("another error: {other}"),
     }
 }
 
@@ -408,4 +409,21 @@ fn get_without_room_is_a_value_of_no_bytes() {
     let state = memory.state();
     assert_eq!(state.get(ADA, CODE, &mut []), Ok(&[][..]));
     assert_eq!(state.get(BEN, CODE, &mut []), Err(CallError::Att(AttError(0x0A))));
+}
+
+#[test]
+fn a_saved_table_ends_with_its_values() {
+    let mut memory = Memory::open();
+    let mut out = [LENT; 640];
+    let table = memory.state().client_table(ADA, &mut out).unwrap().unwrap();
+    // a header of 4, two entries of 4, a value of 2, one of at most 8 with its length of 2
+    assert_eq!(saved_length(table), Ok(24));
+    for longer in 24..=640 {
+        assert_eq!(saved_length(&table[..longer]), Ok(24));
+    }
+    for shorter in 0..24 {
+        assert_eq!(saved_length(&table[..shorter]), Err(Refusal::BadTable));
+    }
+    assert_eq!(saved_length(&[0; 4]), Ok(4), "no entry");
+    assert_eq!(saved_length(&[1, 0, 0, 0, 0, 0, 0, 0]), Err(Refusal::BadTable), "key 0");
 }

@@ -72,7 +72,7 @@ fn one_a_value_that_is_too_long() {
 fn two_a_buffer_that_is_too_short_or_too_long() {
     let mut hub = hub();
     let mut ada = join(&mut hub, 1);
-    let (before, waiting) = (hub.clone(), ada.clone());
+    let (before, waiting) = (hub.clone(), ada.prepared().clone());
     for request in [
         Request::Write {
             handle: CODE,
@@ -98,14 +98,14 @@ fn two_a_buffer_that_is_too_short_or_too_long() {
     let endless = hub.process_to_vec(&mut ada, Link::Plain, Request::Confirmation, usize::MAX);
     assert_eq!(endless, Err(Refusal::BadBuffer));
     assert_eq!(hub, before);
-    assert_eq!(ada, waiting);
+    assert_eq!(*ada.prepared(), waiting);
 }
 
 #[test]
 fn two_a_prepared_value_that_can_not_be_repeated() {
     let mut hub = hub();
     let mut ada = join(&mut hub, 1);
-    let waiting = ada.clone();
+    let waiting = ada.prepared().clone();
     for len in [19, 200] {
         let value = vec![b'x'; len];
         let prepare = Request::PrepareWrite {
@@ -119,7 +119,7 @@ fn two_a_prepared_value_that_can_not_be_repeated() {
             Err(Refusal::BadBuffer)
         );
         assert_eq!(out, [LENT; 23]);
-        assert_eq!(ada, waiting);
+        assert_eq!(*ada.prepared(), waiting);
     }
     let prepare = Request::PrepareWrite {
         handle: CODE,
@@ -179,7 +179,7 @@ fn four_a_saved_table_that_can_not_be_read() {
         );
         assert_eq!(hub, before);
     }
-    let whole = hub.client_table(ada).unwrap().unwrap();
+    let whole = hub.client_table(ada).unwrap();
     let short = &whole.as_bytes()[..whole.as_bytes().len() - 1];
     assert_eq!(hub.restore(ada, &SavedTable::from_bytes(short)), Err(Refusal::BadTable));
     let longer = [whole.as_bytes(), b"and more"].concat();
@@ -255,7 +255,7 @@ fn an_empty_list_is_a_hub() {
     let mut ada = join(&mut hub, 1);
     let answer = hub.process_to_vec(&mut ada, Link::Plain, Request::FindInformation { start: 1, end: 9 }, 23);
     assert_eq!(answer, Ok(Some(vec![0x01, 0x04, 1, 0, 0x0A])));
-    assert_eq!(hub.client_table(ada.who()).unwrap().unwrap().as_bytes(), [0; 4]);
+    assert_eq!(hub.client_table(ada.who()).unwrap().as_bytes(), [0; 4]);
 }
 
 #[test]

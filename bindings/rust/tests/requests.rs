@@ -270,11 +270,11 @@ fn write_command_never_answers() {
 fn two_requests_change_nothing_and_have_no_answer() {
     let mut hub = hub();
     let mut ada = join(&mut hub, 1);
-    let (before, waiting) = (hub.clone(), ada.clone());
+    let (before, waiting) = (hub.clone(), ada.prepared().clone());
     assert_eq!(ask(&mut hub, &mut ada, Request::ExchangeMtu { mtu: 185 }), None);
     assert_eq!(ask(&mut hub, &mut ada, Request::Confirmation), None);
     assert_eq!(hub, before);
-    assert_eq!(ada, waiting);
+    assert_eq!(*ada.prepared(), waiting);
 }
 
 #[test]
@@ -290,7 +290,7 @@ fn prepare_keeps_what_follows_and_nothing_else() {
         ask(&mut hub, &mut ada, prepare(CODE, 2, b"AB")),
         bytes(b"\x17\x05\x00\x02\x00AB")
     );
-    let (before, waiting) = (hub.clone(), ada.clone());
+    let (before, waiting) = (hub.clone(), ada.prepared().clone());
     assert_eq!(ask(&mut hub, &mut ada, prepare(0, 4, b"C")), error(0x16, 0, 0x01));
     assert_eq!(ask(&mut hub, &mut ada, prepare(NAME, 4, b"C")), error(0x16, NAME, 0x09));
     for offset in [0, 2, 3, 5, 0xFFFF] {
@@ -299,7 +299,7 @@ fn prepare_keeps_what_follows_and_nothing_else() {
             error(0x16, CODE, 0x07)
         );
     }
-    assert_eq!(ada, waiting);
+    assert_eq!(*ada.prepared(), waiting);
     assert_eq!(hub, before);
 
     assert_eq!(
@@ -324,9 +324,9 @@ fn at_most_512_bytes_wait() {
     };
     let echo = ask_over(&mut hub, &mut ada, Link::Plain, prepare(0, &text), 517);
     assert_eq!(echo, Some([&[0x17, 0x10, 0x02, 0, 0], &text[..]].concat()));
-    let waiting = ada.clone();
+    let waiting = ada.prepared().clone();
     assert_eq!(ask(&mut hub, &mut ada, prepare(512, b"!")), error(0x16, NOTES, 0x09));
-    assert_eq!(ada, waiting);
+    assert_eq!(*ada.prepared(), waiting);
     assert_eq!(
         ask(&mut hub, &mut ada, prepare(512, b"")),
         bytes(&[0x17, 0x10, 0x02, 0, 2])

@@ -1,5 +1,6 @@
 // A peer's table, for keeping and giving back.
 ghost use mathlib.Core.Path.{_≡_};
+ghost use Rattle.table_view.specs.Read.{rawTold};
 ghost use Rattle.state.specs.State.{lent};
 ghost use Rattle.attribute_server.specs.Table.{fetchedTold, restoredTold, restoredLeft};
 ghost use Rattle.numbers.specs.Reply.{replyTo};
@@ -41,4 +42,12 @@ pub extern "C" fn ropethatch_set_client_att_table(
         × (lent (now (list .entry)) (now (store .entry)) (now (row .entry)) (now (tables .exit)) ≡ restoredLeft s who (now (saved .entry))) ⌝ }
 {
     edge::table::set_client_att_table(list, store, row, tables, who, saved)
+}
+
+// How many of these bytes are the saved table: it stands at their start, and what follows is not the table's.
+#[no_mangle]
+pub extern "C" fn ropethatch_saved_length(saved: &[u8]) -> Reply
+    ensures { λ r. ⌜ r ≡ replyTo (rawTold (now (saved .entry))) ⌝ }
+{
+    edge::table::saved_length(saved)
 }

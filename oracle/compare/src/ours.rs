@@ -158,6 +158,11 @@ impl Ours {
     }
 }
 
+/// The part of some bytes that is a saved table, by the library.
+pub fn read(saved: &[u8]) -> Answer {
+    raw::saved_length(saved).map_or_else(refused, |len| Answer::Value(saved[..len].to_vec()))
+}
+
 /// Whether the bytes past the answer are as they were lent.
 fn is_clean(answer: &Answer, out: &[u8]) -> bool {
     let used = match answer {
@@ -252,6 +257,7 @@ fn failed(error: CallError) -> Answer {
     match error {
         CallError::Refused(refusal) => refused(refusal),
         CallError::Att(code) => Answer::Att(code.code()),
+        other => Answer::Error(other.to_string()),
     }
 }
 

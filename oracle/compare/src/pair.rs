@@ -4,9 +4,9 @@ use crate::boundary::Spelling;
 use crate::corners::Corners;
 use crate::differences::{self, Kind};
 use crate::lists::List;
-use crate::ours::Ours;
+use crate::ours::{self, Ours};
 use crate::pokes::Poke;
-use original::{Answer, Call, Hub};
+use original::{table, Answer, Call, Hub};
 use std::collections::BTreeMap;
 use std::fmt;
 
@@ -101,6 +101,9 @@ impl Pair {
 
     fn call(&mut self, step: &Step, valid: bool, counts: &mut Counts) -> Result<Answer, String> {
         let call = &step.call;
+        if let Call::SetTable { saved, .. } = call {
+            ends_alike(saved)?;
+        }
         let (ours, clean) = self.ours.call(call, step.spelling.as_ref());
         if !clean {
             return Err(format!("ours wrote past its answer {ours:02X?}"));
@@ -137,6 +140,14 @@ impl Pair {
             counts.add([kind.ok_or_else(|| format!("the Rust wrote past its answer {theirs:02X?}"))?]);
         }
         Ok(())
+    }
+}
+
+/// Where a saved table ends, or that the bytes are none: it is a call of its own, on no hub.
+fn ends_alike(saved: &[u8]) -> Result<(), String> {
+    match (ours::read(saved), table::read(saved)) {
+        (ours, theirs) if ours == theirs => Ok(()),
+        (ours, theirs) => Err(format!("saved_length: ours {ours:02X?}\nRust {theirs:02X?}")),
     }
 }
 
