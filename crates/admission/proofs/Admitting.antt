@@ -59,10 +59,10 @@ plain-is a x e w = let q : x ≡ a = cc in rw q at w
 
 pub refusal : (v b p : Bool) (a : Answer) → admissionBy v b p ≡ No a → (out : List ℕ) (t : Told) → Answered out out a (toldIf (No a) t)
 unfolding admissionBy Plain
-refusal true true p a e = plain-is a BadBuffer e (λ out t. record { told = refl; out = refl })
-refusal true false true a e = plain-is a BadPeer e (λ out t. record { told = refl; out = refl })
+refusal true true p a e = plain-is a BadBuffer e (λ out t. record { told = refl; out = refl; fits = tt })
+refusal true false true a e = plain-is a BadPeer e (λ out t. record { told = refl; out = refl; fits = tt })
 refusal true false false a e = absurdly a (sym e)
-refusal false b p a e = plain-is a BadState e (λ out t. record { told = refl; out = refl })
+refusal false b p a e = plain-is a BadState e (λ out t. record { told = refl; out = refl; fits = tt })
 
 module _ (d : Admission) where
   pub told-no : (a : Answer) (t : Told) → d ≡ No a → toldAnswer [] a ≡ toldIf d t

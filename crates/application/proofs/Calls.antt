@@ -30,11 +30,11 @@ unfolding copyOf copiedOf
 copy-told old (Bytes v) =
     let l = length-take (length old) v in
     answered old _ _ (take (length old) v) (record { size = omega (arith, l); fits = omega (arith, l); bytes = refl })
-copy-told old (Code c) = record { told = refl; out = refl }
+copy-told old (Code c) = record { told = refl; out = refl; fits = tt }
 
 module _ (list : List (List ℕ)) (store : List ℕ) (t : List ℕ) (f : Found) (old : List ℕ) where
   pub not-listed : f ≡ Nothing → Answered old old answer.NoHandle (fetchTold list store t f (length old))
-  not-listed e = rw e (record { told = refl; out = refl })
+  not-listed e = rw e (record { told = refl; out = refl; fits = tt })
 
   pub fetched : (i : ℕ) → f ≡ At i → (u : List ℕ) → u ≡ t → (c : Copied) (r : Answer) (new : List ℕ) → r ≡ answerCopied c
       → (c ≡ copiedOf (length old) (readOf store u (attributeOf (getD list i [])))) × (new ≡ copyOf old (readOf store u (attributeOf (getD list i []))))

@@ -25,7 +25,7 @@ use Rattle.client_att_table.specs.SetValues.{setAll, afterSet}
 use Rattle.model.specs.View.{tableAt}
 use Rattle.model.specs.Told.{toldAnswer, Answered}
 use Rattle.model.specs.declared.Answer.the-variants as answer
-use Rattle.model.proofs.Sending.{answered}
+use Rattle.model.proofs.Sending.{answered, silent}
 use Rattle.storing.proofs.Tables.{table-there, table-none}
 use Rattle.application.specs.Calls.{hasBit, isSubscribed, tableTold, restoreTold, restored}
 
@@ -58,6 +58,9 @@ module _ (ts : List (List ℕ)) (slot : Found) (h bit : ℕ) where
 
 -- the table copied out
 module _ (ts : List (List ℕ)) (slot : Found) (old : List ℕ) where
+  pub no-table : slot ≡ Nothing → Answered old old answer.Nothing (tableTold ts slot)
+  no-table e = rw e (silent old)
+
   pub table-copied : (k : ℕ) → slot ≡ At k → length (getD ts k []) ≡ tableBytes → length old ≡ tableBytes → (new : List ℕ) → new ≡ sets old 0 (getD ts k [])
       → Answered old new (answer.Value tableBytes) (tableTold ts slot)
   table-copied k e n m new s =

@@ -3,3 +3,4 @@ pub mod Moving
 pub mod Processing
 pub mod Unique
 pub mod Valid
+pub mod Fitting

@@ -1,13 +1,10 @@
 -- Any two results that satisfy a call's promise are equal: its answer, what it hands back, and every lent byte. Assumes
--- nothing.
-use mathlib.Core.Path.{_≡_, sym, ap, _∙_}
+-- nothing. (A state fixes the lent bytes by `one-lent`, state/proofs/Unique.antt.)
+use mathlib.Core.Path.{_≡_, sym, _∙_}
 use mathlib.Core.List.{List, []}
-use Prim.Native.Nat.{ℕ, _<_}
-use lib.ListN.{length, getD}
-use Rattle.wire.specs.Size.{slotBytes}
+use Prim.Native.Nat.{ℕ}
 use Rattle.table_view.specs.Told.{Told}
-use Rattle.peers.proofs.Rows.{one-row}
-use Rattle.state.specs.State.{State, Waiting, lent}
+use Rattle.state.specs.State.{State, Waiting}
 use Rattle.model.specs.Told.{toldAnswer, Answered}
 use Rattle.model.specs.declared.Answer.{Answer}
 use Rattle.model.proofs.Telling.{Same, one-answer, one-answered}
@@ -21,30 +18,9 @@ one-told t a b p q = one-answer [] a b (p ∙ sym q)
 pub one-copied : (old new new′ : List ℕ) (r r′ : Answer) (t : Told) → Answered old new r t → Answered old new′ r′ t → Same new new′ r r′
 one-copied = one-answered
 
--- `set`, `set_client_att_table`: the answer and the state
+-- `connect`, `disconnect`, `set`, `set_client_att_table`: the answer and the state
 pub one-left : (t : Told) (s : State) (r r′ : Answer) (s₁ s₂ : State) → toldAnswer [] r ≡ t → s₁ ≡ s → toldAnswer [] r′ ≡ t → s₂ ≡ s → (r ≡ r′) × (s₁ ≡ s₂)
 one-left t s r r′ s₁ s₂ p a q b = (one-told t r r′ p q, a ∙ sym b)
-
--- the state fixes the lent bytes: list, store and tables are in it, and a row of slots of eight bytes is fixed by the
--- slots that they are
-pub record SameLent (list list′ : List (List ℕ)) (store store′ : List ℕ) (row row′ : List (List ℕ)) (ts ts′ : List (List ℕ)) : Type 0 where
-  pub list-is : list ≡ list′
-  pub store-is : store ≡ store′
-  pub row-is : row ≡ row′
-  pub tables-are : ts ≡ ts′
-
-abbrev pub EightEach : List (List ℕ) → Type 0
-EightEach row = (i : ℕ) → i < length row → length (getD row i []) ≡ slotBytes
-
-pub one-lent : (list list′ : List (List ℕ)) (store store′ : List ℕ) (row row′ : List (List ℕ)) (ts ts′ : List (List ℕ)) → EightEach row → EightEach row′
-    → lent list store row ts ≡ lent list′ store′ row′ ts′ → SameLent list list′ store store′ row row′ ts ts′
-one-lent list list′ store store′ row row′ ts ts′ m n e =
-    record {
-      list-is = ap (λ (s : State). s .list) e;
-      store-is = ap (λ (s : State). s .store) e;
-      row-is = one-row row row′ m n (ap (λ (s : State). s .row) e);
-      tables-are = ap (λ (s : State). s .tables) e;
-    }
 
 -- `process`: the answer and the buffer, the state, and what waits at the link
 pub record SameRequest (a a′ : Answer) (s s′ : State) (w w′ : Waiting) (new new′ : List ℕ) : Type 0 where

@@ -1,3 +1,4 @@
 pub mod Finding
 pub mod Telling
 pub mod Joining
+pub mod Unique

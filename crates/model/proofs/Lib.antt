@@ -7,3 +7,4 @@ pub mod Telling
 pub mod Hidden
 pub mod States
 pub mod Leaving
+pub mod Fitting

@@ -35,13 +35,18 @@ front-sets old rsp h =
     rw (l, sets-eq rsp old 0 (omega arith)) (append-nil _ ∙ take-append-seam rsp _)
 
 pub answered : (old new : List ℕ) (n : ℕ) (rsp : List ℕ) → Sent old new n rsp → Answered old new (Value n) (value rsp)
-answered old new n rsp s = record { told = rw (s .size, s .bytes) (ap value (front-sets old rsp (s .fits))); out = s .bytes }
+answered old new n rsp s =
+    record {
+      told = rw (s .size, s .bytes) (ap value (front-sets old rsp (s .fits)));
+      out = s .bytes;
+      fits = s .fits;
+    }
 
 pub answered-as : (old new : List ℕ) (r : Answer) (t u : Told) → Answered old new r t → t ≡ u → Answered old new r u
 answered-as old new r t u h e = rw e at h
 
 pub silent : (old : List ℕ) → Answered old old Nothing none
-silent old = record { told = refl; out = refl }
+silent old = record { told = refl; out = refl; fits = tt }
 
 -- the range test
 module _ (g : Range) where

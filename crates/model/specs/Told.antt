@@ -1,6 +1,6 @@
 -- What an answer of the server tells, in document 01's numbers and values (document 01, "Refusals of a call"). Assumes
 -- nothing.
-use Prim.Native.Nat.{ℕ, _-_}
+use Prim.Native.Nat.{ℕ, _-_, _≤_}
 use mathlib.Core.Path.{_≡_}
 use mathlib.Core.List.{List, _++_}
 use lib.ListN.{length, take, replicate}
@@ -35,6 +35,15 @@ laidOn out none = out
 laidOn out (refused n) = out
 laidOn out (att c) = out
 
+-- what is told fits a buffer of n bytes: no more bytes are told than can have been written
+abbrev pub Fits : Told → ℕ → Type 0
+Fits (value v) n = length v ≤ n
+Fits done n = Unit {0}
+Fits none n = Unit {0}
+Fits (refused k) n = Unit {0}
+Fits (att c) n = Unit {0}
+
 pub record Answered (old new : List ℕ) (r : Answer) (t : Told) : Type 0 where
   pub told : toldAnswer new r ≡ t
   pub out : new ≡ laidOn old t
+  pub fits : Fits t (length old)

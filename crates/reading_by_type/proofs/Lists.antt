@@ -1,6 +1,6 @@
 -- The ways of the two reads by type: a lead, a row, a turn, and the whole answer from the first wanted entry on.
 -- Assumes nothing.
-use mathlib.Core.Path.{_≡_, refl, sym, ap, _∙_}
+use mathlib.Core.Path.{_≡_, sym, ap, _∙_}
 use mathlib.Core.Bool.{Bool, true, false, cond}
 use mathlib.Core.List.{List, [], _∷_, _++_, map}
 use mathlib.Core.Logic.{⊎-elim}
@@ -24,9 +24,10 @@ use Rattle.attribute.specs.declared.Link.{Link}
 use Rattle.model.specs.Value.{Contents}
 use Rattle.model.specs.View.{Seen, seenBy, seenAll}
 use Rattle.model.specs.Run.{Chunk, stop, skip, emit, run, fromFirst}
-use Rattle.model.specs.Rows.{pairOf, lead, extraOf, cut, anyEntry, entriesIn, valueTurn, rowTurn}
+use Rattle.model.specs.Rows.{lead, extraOf, cut, anyEntry, entriesIn, valueTurn, rowTurn}
 use Rattle.model.specs.Answer.{Sent, errorRsp, firstRsp, listFrom}
 use Rattle.model.specs.declared.Form.{Form}
+use Rattle.model.proofs.Fitting.{lead-length}
 use Rattle.model.proofs.Running.{run-map, starts-at, starts-nowhere, from-map, map-map}
 use Rattle.model.proofs.Sending.{sent, sent-as}
 use Rattle.response.proofs.Errors.{one-byte}
@@ -58,14 +59,6 @@ module _ (f : Form) where
   pub cut-limit : (room len : ℕ) → cutTo f room len ≤ f .limit
   unfolding cutTo
   cut-limit room len = omega arith
-
-  lead-by : (g : Bool) (e : Entry) (es : List Entry) → length (cond g (pairOf e es) (wordBytes (e .handle))) ≡ cond g 4 2
-  lead-by true e es = refl
-  lead-by false e es = refl
-
-  pub lead-length : (e : Entry) (es : List Entry) → length (lead f e es) ≡ extraOf f
-  unfolding lead extraOf
-  lead-length e es = lead-by (f .group) e es
 
 -- what the lead's code writes: the handle, and behind it the group's end
 module _ (f : Form) (r : List ℕ) (es : List Entry) (old mid : List ℕ) (c next : WriteCursor) (h : ℕ) (room : c .len + extraOf f ≤ length old) (is : h ≡ handleOf r) (m : next ≡ moved (length old) c 2) (p : mid ≡ written old (c .len) (wordBytes h)) where

@@ -5,3 +5,4 @@ pub mod Testing
 pub mod Answers
 pub mod Keeping
 pub mod Calls
+pub mod Unique

@@ -4,7 +4,7 @@ use native.Mathlib.Omega.{arith}
 use borrow.Author.Needs.{needs}
 use denote.Ref.{now}
 use Rattle.storing.proofs.Tables.{slot-there}
-use Rattle.application.proofs.Peers.{table-copied}
+use Rattle.application.proofs.Peers.{no-table, table-copied}
 use Rattle.application.proofs.inner.get_client_att_table.Statement.{statement}
 use Rattle.application.proofs.inner.get_client_att_table.Tie as tie
 
@@ -15,7 +15,9 @@ enum-told : tie.Need-enum-told
 enum-told c = search needs
 
 returns : tie.Need-returns
-returns c = search needs
+returns c =
+    let at-start = c .before .before .before in
+    no-table _ _ (now (at-start .args .out)) (c .enum-told .given .1)
 
 mul-copy : tie.Need-mul-copy
 mul-copy c =
