@@ -1,4 +1,6 @@
 pub mod Hub
 pub mod Valid
+pub mod Agree
 pub mod Secret
+pub mod Replies
 pub mod Untouched
