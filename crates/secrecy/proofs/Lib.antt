@@ -12,3 +12,4 @@ pub mod Waiting
 pub mod Agree
 pub mod Secret
 pub mod Replies
+pub mod Witness

@@ -5,7 +5,6 @@ use lib.Dec.{eqb}
 use lib.ListN.{length}
 use Rattle.model.specs.Told.{laidOn}
 use Rattle.model.specs.declared.Request.{Request}
-use Rattle.model.specs.declared.Request.the-variants as request
 use Rattle.numbers.specs.Reply.{replyTo}
 use Rattle.numbers.specs.Request.{isAsk, isChange, otherOf, requestOf}
 use Rattle.numbers.specs.declared.RequestNumbers.{RequestNumbers}

@@ -3,4 +3,5 @@ pub mod Valid
 pub mod Agree
 pub mod Secret
 pub mod Replies
+pub mod Witness
 pub mod Untouched
