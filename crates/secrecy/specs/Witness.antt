@@ -8,6 +8,7 @@ use mathlib.Core.List.{List, [], _∷_, _++_}
 use lib.Dec.{eqb}
 use lib.ListN.{getD, replicate}
 use Rattle.wire.specs.Test.{both}
+use Rattle.table_view.specs.Told.{Told, value}
 use Rattle.attribute.specs.declared.Link.{Link}
 use Rattle.attribute.specs.declared.Link.the-variants.{Plain, Authenticated}
 use Rattle.peers.specs.Slots.{nobody, noSlot}
@@ -23,7 +24,8 @@ use Rattle.secrecy.specs.Valid.{Valid}
 use Rattle.secrecy.specs.Agree.{attributeAt, Agree}
 use Rattle.secrecy.specs.Secret.{everReaches, heard}
 
--- a record of the list: the numbers are below 256, the UUID has two bytes, and x fills its padding and the spare bytes
+-- a record of the list, of numbers below 256: handle, capacity, start, present length, needs for reading and writing,
+-- kind (1 variable, 2 client), and a UUID of two bytes. x fills the padding behind it and the spare bytes
 unfoldable pub recordWith : ℕ → ℕ → ℕ → ℕ → ℕ → ℕ → ℕ → ℕ → ℕ → ℕ → List ℕ
 recordWith h cap start len reads writes kind low high x =
     h ∷ 0 ∷ cap ∷ 0 ∷ start ∷ 0 ∷ len ∷ 0 ∷ reads ∷ writes ∷ kind ∷ 2 ∷ low ∷ high ∷ replicate 18 x
@@ -32,7 +34,9 @@ recordWith h cap start len reads writes kind low high x =
 -- shared ones lie x bytes further on
 unfoldable pub listWith : ℕ → ℕ → List (List ℕ)
 listWith need x =
-    recordWith 1 2 x 2 1 0 0 0x00 0x28 x ∷ recordWith 2 4 (x + 2) 4 need 3 1 0x01 0xFF x ∷ recordWith 3 2 x x 1 1 3 0x02 0x29 x ∷ []
+    recordWith 1 2 x 2 1 0 0 0x00 0x28 x
+    ∷ recordWith 2 4 (x + 2) 4 need 3 1 0x01 0xFF x
+    ∷ recordWith 3 2 x x 1 1 3 0x02 0x29 x ∷ []
 
 unfoldable pub storeWith : ℕ → List ℕ
 storeWith x = replicate x 0xEE ++ (0x0F ∷ 0xF0 ∷ 0x33 ∷ 0x45 ∷ 0x31 ∷ (0x30 + x) ∷ [])
@@ -84,6 +88,17 @@ calls =
     ∷ asking ben Authenticated 1 (request.Change (Write 2)) (0x39 ∷ [])
     ∷ reading 2 ∷ []
 
+-- what she hears with need 3: an error of code 0x05, the value under handle 1, the echo of what she prepared, that it was
+-- written, what she wrote, and the error again
+unfoldable pub answers : List Told
+answers =
+    value (0x01 ∷ 0x0A ∷ 0x02 ∷ 0x00 ∷ 0x05 ∷ [])
+    ∷ value (0x0B ∷ 0x0F ∷ 0xF0 ∷ [])
+    ∷ value (0x17 ∷ 0x03 ∷ 0x00 ∷ 0x00 ∷ 0x00 ∷ 0x41 ∷ [])
+    ∷ value (0x19 ∷ [])
+    ∷ value (0x0B ∷ 0x41 ∷ [])
+    ∷ value (0x01 ∷ 0x0A ∷ 0x02 ∷ 0x00 ∷ 0x05 ∷ []) ∷ []
+
 -- what stands in the places that agreement leaves open: the padding of a UUID and a spare byte; where the shared values
 -- lie, and the range fields of the client entry; the bytes of the hidden value that differ; the connected bytes; Ben's
 -- value; the stale offset, and a byte past the prepared ones
@@ -108,6 +123,7 @@ allDiffer (x ∷ xs) (y ∷ ys) = both (not (eqb x y)) (allDiffer xs ys)
 pub record Witnessed : Type 0 where
   pub valid : (need : ℕ) → need ≤ 3 → Valid (hubWith need 0) × Valid (hubWith need 1)
   pub agree : Agree ada (everReaches ada calls) (hubWith 3 0) (hubWith 3 1)
+  pub hears : heard ada (hubWith 3 0) calls ≡ answers
   pub same : heard ada (hubWith 3 0) calls ≡ heard ada (hubWith 3 1) calls
   pub apart : allDiffer (openPlaces (hubWith 3 0)) (openPlaces (hubWith 3 1)) ≡ true
   pub other : hubWith 3 0 ≡ hubWith 3 1 → ⊥
