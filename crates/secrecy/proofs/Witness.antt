@@ -79,7 +79,7 @@ module _ (need x : ℕ) where
 
 -- agreed
 agreed : Agree ada (everReaches ada calls) (hubWith 3 0) (hubWith 3 1)
-unfolding hubWith stateWith listWith storeWith recordWith knownOf holderOf entryOf attributeOf uuidOf word everReaches calls isRequest accessOf sameId both alike matches sharedItem
+unfolding hubWith stateWith listWith storeWith recordWith knownOf holderOf entryOf attributeOf uuidOf word everReaches calls isRequest accessOf sameId both alike matches sharedItem tableWith itemsFrom itemAt nextAt headAt lenAt valueAt
 agreed = record { state = record { list = refl; row = refl; shared = shared; kept = kept }; pending = λ i. refl }
   where
     shared : (i : ℕ) → i < 3 → attributeAt (stateWith 3 0) i .client ≡ false → everReaches ada calls (attributeAt (stateWith 3 0) i .reads) ≡ true

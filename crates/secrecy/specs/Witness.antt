@@ -6,7 +6,7 @@ use mathlib.Core.Path.{_≡_}
 use mathlib.Core.Bool.{Bool, true, false, not}
 use mathlib.Core.List.{List, [], _∷_, _++_}
 use lib.Dec.{eqb}
-use lib.ListN.{getD, replicate}
+use lib.ListN.{length, getD, replicate}
 use Rattle.wire.specs.Test.{both}
 use Rattle.table_view.specs.Told.{Told, value}
 use Rattle.attribute.specs.declared.Link.{Link}
@@ -30,23 +30,23 @@ unfoldable pub recordWith : ℕ → ℕ → ℕ → ℕ → ℕ → ℕ → ℕ 
 recordWith h cap start len reads writes kind low high x =
     h ∷ 0 ∷ cap ∷ 0 ∷ start ∷ 0 ∷ len ∷ 0 ∷ reads ∷ writes ∷ kind ∷ 2 ∷ low ∷ high ∷ replicate 18 x
 
--- a shared value for every link, one for links that meet `need`, and a client value with x in its range fields. The
--- shared ones lie x bytes further on
+-- a shared value for every link, of two bytes where three have room; one for links that meet `need`; and a client value
+-- with x in its range fields. The shared ones lie x bytes further on, and the hidden one ends with x
 unfoldable pub listWith : ℕ → ℕ → List (List ℕ)
 listWith need x =
-    recordWith 1 2 x 2 1 0 0 0x00 0x28 x
-    ∷ recordWith 2 4 (x + 2) 4 need 3 1 0x01 0xFF x
+    recordWith 1 3 x 2 1 0 1 0x00 0x28 x
+    ∷ recordWith 2 4 (x + 3) 4 need 3 1 0x01 0xFF x
     ∷ recordWith 3 2 x x 1 1 3 0x02 0x29 x ∷ []
 
 unfoldable pub storeWith : ℕ → List ℕ
-storeWith x = replicate x 0xEE ++ (0x0F ∷ 0xF0 ∷ 0x33 ∷ 0x45 ∷ 0x31 ∷ (0x30 + x) ∷ [])
+storeWith x = replicate x 0xEE ++ (0x0F ∷ 0xF0 ∷ x ∷ 0x33 ∷ 0x45 ∷ 0x31 ∷ (0x30 + x) ∷ [])
 
--- the table of a tablet that has kept `len` bytes of its client value, one at most
+-- the table of a tablet that has kept `len` bytes of its client value, one at most; past them the byte is left over
 unfoldable pub tableWith : ℕ → ℕ → List ℕ
 tableWith len byte =
     0x01 ∷ 0x00 ∷ 0x04 ∷ 0x00 ∷ 0x03 ∷ 0x80 ∷ 0x00 ∷ 0x00 ∷ len ∷ 0x00 ∷ byte ∷ 0x00 ∷ replicate 628 0
 
--- two tablets are connected, Ada and Ben; Ada has kept nothing, Ben the byte x
+-- two tablets are connected, Ada and Ben; Ada has kept nothing, Ben the byte 1 or nothing
 abbrev pub tablet : ℕ → Identity
 tablet n = record { kind = 1; addr = n ∷ 0 ∷ 0 ∷ 0 ∷ 0 ∷ 0 ∷ [] }
 
@@ -62,7 +62,7 @@ stateWith need x =
     let empty : Slot = record { id = nobody; connected = 0 } in
     state (listWith need x) (storeWith x)
     (record { id = ada; connected = 1 + x } ∷ record { id = ben; connected = 1 + x } ∷ replicate 6 empty)
-    (fresh ∷ tableWith 1 x ∷ replicate 6 fresh)
+    (tableWith 0 x ∷ tableWith x x ∷ replicate 6 fresh)
 
 -- nothing is prepared at any link: under handle 0 stands an offset that is stale
 unfoldable pub hubWith : ℕ → ℕ → Hub
@@ -100,16 +100,17 @@ answers =
     ∷ value (0x01 ∷ 0x0A ∷ 0x02 ∷ 0x00 ∷ 0x05 ∷ []) ∷ []
 
 -- what stands in the places that agreement leaves open: the padding of a UUID and a spare byte; where the shared values
--- lie, and the range fields of the client entry; the bytes of the hidden value that differ; the connected bytes; Ben's
--- value; the stale offset, and a byte past the prepared ones
+-- lie, and the range fields of the client entry; how long the store is, the byte past the value of entry 1, and the
+-- hidden value's last; the connected bytes; the byte past Ada's value; the length and the byte of Ben's; the stale offset,
+-- and a byte past the prepared ones
 unfoldable pub openPlaces : Hub → List ℕ
 openPlaces h =
     let s = h .state in
     getD (getD (s .list) 0 []) 14 0 ∷ getD (getD (s .list) 0 []) 31 0
     ∷ attributeAt s 0 .start ∷ attributeAt s 1 .start ∷ attributeAt s 2 .start ∷ attributeAt s 2 .len
-    ∷ getD (s .store) (attributeAt s 1 .start + 3) 0
+    ∷ length (s .store) ∷ getD (s .store) (attributeAt s 0 .start + 2) 0 ∷ getD (s .store) (attributeAt s 1 .start + 3) 0
     ∷ getD (s .row) 0 noSlot .connected ∷ getD (s .row) 1 noSlot .connected
-    ∷ getD (getD (s .tables) 1 []) 10 0
+    ∷ getD (getD (s .tables) 0 []) 10 0 ∷ getD (getD (s .tables) 1 []) 8 0 ∷ getD (getD (s .tables) 1 []) 10 0
     ∷ h .waiting 0 .prepared .offset ∷ getD (h .waiting 0 .bytes) 0 0 ∷ []
 
 unfoldable pub allDiffer : List ℕ → List ℕ → Bool
