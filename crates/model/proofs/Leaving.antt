@@ -1,6 +1,6 @@
 -- What a request leaves of a state: all as it was, or a value put at a listed place whose need the link meets. Said of
--- two hubs with one list and one row, side by side; one hub stands beside itself. Assumes nothing.
-use mathlib.Core.Path.{_≡_, refl}
+-- two hubs side by side; one hub stands beside itself. Assumes nothing.
+use mathlib.Core.Path.{_≡_, refl, subst}
 use mathlib.Core.Bool.{Bool, true, false, cond}
 use mathlib.Core.List.{List, []}
 use Prim.Native.Nat.{ℕ, _<_}
@@ -14,8 +14,7 @@ use Rattle.attribute.specs.Needs.{mayWrite}
 use Rattle.attribute.specs.declared.Access.{Access}
 use Rattle.attribute.specs.declared.Access.the-variants.{Granted, Denied}
 use Rattle.attribute.specs.declared.Link.{Link}
-use Rattle.peers.specs.declared.Slot.{Slot}
-use Rattle.state.specs.State.{State, state}
+use Rattle.state.specs.State.{State}
 use Rattle.model.specs.View.{Pending}
 use Rattle.model.specs.Answer.{isDue}
 use Rattle.model.specs.Change.{ifGranted, putAt, writtenAt, written, stateAfter, stateBy}
@@ -28,24 +27,23 @@ use Rattle.model.specs.declared.Change.the-variants.{Write, WriteCommand
 pub listed : (list : List (List ℕ)) (h i : ℕ) → placeOf list h ≡ At i → i < length list
 listed list h i e = placed (hasHandle h) [] list 0 i e .inside
 
-module _ (link : Link) (list : List (List ℕ)) (store store′ : List ℕ) (row : List Slot) (ts ts′ : List (List ℕ)) (slot : Found) (R : State → State → Type 0) (old : R (state list store row ts) (state list store′ row ts′))
-    (put : (i : ℕ) → i < length list → mayWrite (attributeOf (getD list i [])) link ≡ Granted → (off : ℕ) (d : List ℕ) → R (putAt (state list store row ts) slot i off d) (putAt (state list store′ row ts′) slot i off d)) where
-  abbrev a : State
-  a = state list store row ts
-
-  abbrev b : State
-  b = state list store′ row ts′
-
-  met : (r : Access) (i : ℕ) → i < length list → mayWrite (attributeOf (getD list i [])) link ≡ r → (off : ℕ) (d : List ℕ) → R (ifGranted r (putAt a slot i off d) a) (ifGranted r (putAt b slot i off d) b)
+-- two hubs in which handles lie at the same places, under the same needs for writing
+module _ (link : Link) (a b : State) (slot : Found) (R : State → State → Type 0) (old : R a b)
+    (places : (h : ℕ) → placeOf (a .list) h ≡ placeOf (b .list) h)
+    (needs : (i : ℕ) → mayWrite (attributeOf (getD (a .list) i [])) link ≡ mayWrite (attributeOf (getD (b .list) i [])) link)
+    (put : (i : ℕ) → i < length (a .list) → mayWrite (attributeOf (getD (a .list) i [])) link ≡ Granted → (off : ℕ) (d : List ℕ) → R (putAt a slot i off d) (putAt b slot i off d)) where
+  met : (r : Access) (i : ℕ) → i < length (a .list) → mayWrite (attributeOf (getD (a .list) i [])) link ≡ r → (off : ℕ) (d : List ℕ) → R (ifGranted r (putAt a slot i off d) a) (ifGranted r (putAt b slot i off d) b)
   met Granted i l e off d = put i l e off d
   met (Denied c) i l e off d = old
 
-  at-place : (f : Found) → ((i : ℕ) → f ≡ At i → i < length list) → (off : ℕ) (d : List ℕ) → R (writtenAt link a slot f off d) (writtenAt link b slot f off d)
+  at-place : (f : Found) → ((i : ℕ) → f ≡ At i → i < length (a .list)) → (off : ℕ) (d : List ℕ) → R (writtenAt link a slot f off d) (writtenAt link b slot f off d)
   at-place Nothing h off d = old
-  at-place (At i) h off d = met (mayWrite (attributeOf (getD list i [])) link) i (h i refl) refl off d
+  at-place (At i) h off d = rw (← needs i) (met (mayWrite (attributeOf (getD (a .list) i [])) link) i (h i refl) refl off d)
 
   by-handle : (h off : ℕ) (d : List ℕ) → R (written link a slot h off d) (written link b slot h off d)
-  by-handle h off d = at-place (placeOf list h) (listed list h) off d
+  by-handle h off d =
+      subst (λ (f : Found). R (written link a slot h off d) (writtenAt link b slot f off d)) (places h)
+      (at-place (placeOf (a .list) h) (listed (a .list) h) off d)
 
   if-due : (t : Bool) (w : Pending) → R (cond t (written link a slot (w .handle) (w .offset) (w .bytes)) a) (cond t (written link b slot (w .handle) (w .offset) (w .bytes)) b)
   if-due true w = by-handle (w .handle) (w .offset) (w .bytes)
@@ -70,4 +68,4 @@ module _ (link : Link) (list : List (List ℕ)) (store store′ : List ℕ) (row
 pub request-leaves : (link : Link) (s : State) (slot : Found) (P : State → Type 0) → P s
     → ((i : ℕ) → i < length (s .list) → mayWrite (attributeOf (getD (s .list) i [])) link ≡ Granted → (off : ℕ) (d : List ℕ) → P (putAt s slot i off d))
     → (w : Pending) (rq : Request) (d : List ℕ) → P (stateBy link s slot w rq d)
-request-leaves link s slot P old put = both-leave link (s .list) (s .store) (s .store) (s .row) (s .tables) (s .tables) slot (λ x y. P x) old put
+request-leaves link s slot P old put = both-leave link s s slot (λ x y. P x) old (λ h. refl) (λ i. refl) put

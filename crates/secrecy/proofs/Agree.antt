@@ -1,29 +1,30 @@
 -- Agreement is kept by every call of anybody: one clause a call. Assumes nothing.
-use mathlib.Core.Path.{_≡_, refl, sym, ap, subst, _∙_}
+use mathlib.Core.Path.{_≡_, sym, ap, subst, _∙_}
 use mathlib.Core.Bool.{Bool, true, false, cond}
-use mathlib.Core.List.{List}
 use Prim.Native.Nat.{ℕ}
 use lib.Dec.{eqb}
 use lib.ListN.{length}
+use Rattle.wire.specs.Size.{valueBytes}
 use Rattle.wire.proofs.Tests.{both-true}
 use Rattle.peers.specs.Identity.{isBad}
 use Rattle.peers.specs.Slots.{slotOf}
 use Rattle.peers.specs.declared.Identity.{Identity}
 use Rattle.peers.specs.declared.Move.{Move}
-use Rattle.state.specs.State.{State, Waiting, state, afterMove}
-use Rattle.state.specs.Valid.{validWith}
+use Rattle.state.specs.State.{State, Waiting, afterMove}
+use Rattle.state.specs.Valid.{recordOk, validWith}
 use Rattle.model.specs.View.{Pending}
 use Rattle.model.specs.Change.{stateBy}
 use Rattle.admission.specs.Admission.{admissionBy, admission, isBadBuffer, leftIf}
-use Rattle.attribute_server.specs.Request.{let-in, seenOf}
+use Rattle.attribute_server.specs.Request.{Query, let-in, seenOf}
 use Rattle.admission.specs.declared.Admission.{Admission}
 use Rattle.admission.specs.declared.Admission.the-variants.{Yes, No}
 use Rattle.secrecy.specs.Hub.{Hub, Asked, Deed, Process, Connect, Disconnect, Set, SetTable, Looks, Call, queryOf, withState, stepBy, step}
 use Rattle.secrecy.specs.Valid.{Valid}
-use Rattle.secrecy.specs.Secret.{SameWaiting, AgreeOn, Agree}
-use Rattle.secrecy.proofs.Kept.{Sound, beside, MoveSame, connect-same, disconnect-same}
+use Rattle.secrecy.specs.Agree.{pendingAt, AgreeOn, Agree}
+use Rattle.secrecy.proofs.Rows.{connecting-same, leaving-same, moved-same}
+use Rattle.secrecy.proofs.Kept.{Sound, MoveSame, connect-same, disconnect-same}
 use Rattle.secrecy.proofs.Shared.{restored-same, asked-same, stored-same}
-use Rattle.secrecy.proofs.Waiting.{waits-same}
+use Rattle.secrecy.proofs.Waiting.{state-settled, no-bytes, waits-same}
 
 -- a request is let in to both, or refused by both with one number: the states are valid
 pub let-in-same : (a b : Hub) → Valid a → Valid b → (who : Identity) (q : Asked)
@@ -44,70 +45,76 @@ both-left R v w e x y x′ y′ old new = subst (λ (u : Admission). R (leftIf v
 sound : (x : Hub) → Valid x → Sound (x .state)
 sound x v = record { right = v .state; sized = v .sized }
 
--- two hubs with one list and one row
-abbrev besideHub : State → List ℕ → List (List ℕ) → (ℕ → Waiting) → Hub
-besideHub s store ts waiting = record { state = beside s store ts; waiting = waiting }
-
-module _ (t : Identity) (may : ℕ → Bool) (a : Hub) (store : List ℕ) (ts : List (List ℕ)) (waiting : ℕ → Waiting)
-    (x : Valid a) (y : Valid (besideHub (a .state) store ts waiting)) (g : Agree t may a (besideHub (a .state) store ts waiting)) (who : Identity) where
+module _ (t : Identity) (may : ℕ → Bool) (a b : Hub) (x : Valid a) (y : Valid b) (g : Agree t may a b) (who : Identity) where
   abbrev s : State
   s = a .state
 
-  abbrev b : Hub
-  b = besideHub s store ts waiting
+  abbrev z : State
+  z = b .state
 
-  left-agrees : (s′ z′ : State) → AgreeOn t may s′ z′ → Agree t may (withState a (leftIf (admission s who) s s′)) (withState b (leftIf (admission (b .state) who) (b .state) z′))
+  left-agrees : (s′ z′ : State) → AgreeOn t may s′ z′ → Agree t may (withState a (leftIf (admission s who) s s′)) (withState b (leftIf (admission z who) z z′))
   left-agrees s′ z′ k =
       record {
-        state = both-left (AgreeOn t may) (admission s who) (admission (b .state) who) (ap (λ (v : Bool). admissionBy v false (isBad who)) (x .state ∙ sym (y .state))) s (b .state) s′ z′ (g .state) k;
-        waiting = g .waiting;
+        state = both-left (AgreeOn t may) (admission s who) (admission z who) (ap (λ (v : Bool). admissionBy v false (isBad who)) (x .state ∙ sym (y .state))) s z s′ z′ (g .state) k;
+        pending = g .pending;
       }
 
-  move-agrees : (m : Move) → MoveSame t s store ts (sound a x) (sound b y) (g .state .kept) m → Agree t may (withState a (leftIf (admission s who) s (afterMove s m))) (withState b (leftIf (admission (b .state) who) (b .state) (afterMove (b .state) m)))
+  -- one move in both
+  move-agrees : (m m′ : Move) → m ≡ m′ → MoveSame t s z (sound a x) (sound b y) (g .state .list) (g .state .row) (g .state .kept) m
+      → Agree t may (withState a (leftIf (admission s who) s (afterMove s m))) (withState b (leftIf (admission z who) z (afterMove z m′)))
   unfolding MoveSame
-  move-agrees m k = left-agrees (afterMove s m) (afterMove (b .state) m) (record { list = refl; row = refl; shared = g .state .shared; kept = k })
+  move-agrees m m′ e k =
+      left-agrees (afterMove s m) (afterMove z m′)
+      (subst (λ (n : Move). AgreeOn t may (afterMove s m) (afterMove z n)) e
+      (record { list = g .state .list; row = moved-same (s .row) (z .row) (g .state .row) m; shared = g .state .shared; kept = k }))
 
-  -- a request: what waits at its link is the same before it, and after it
+  -- a request: what is pending at its link is the same before it, and after it
   module _ (q : Asked) where
-    abbrev pending : Hub → Pending
-    pending h = seenOf (h .state) (h .waiting (q .link)) (queryOf who q) .pending
+    abbrev k : Query
+    k = queryOf who q
 
-    asked-agrees : AgreeOn t may (stateBy (q .level) s (slotOf (s .row) who) (pending a) (q .request) (q .brings)) (stateBy (q .level) (b .state) (slotOf (s .row) who) (pending b) (q .request) (q .brings))
+    abbrev w : Waiting
+    w = a .waiting (q .link)
+
+    abbrev v : Waiting
+    v = b .waiting (q .link)
+
+    abbrev asked : State → Pending → State
+    asked h u = stateBy (q .level) h (slotOf (h .row) who) u (q .request) (q .brings)
+
+    settled-is : (h : State) (u : Waiting) → recordOk (u .prepared) ≡ true → length (u .bytes) ≡ valueBytes → asked h (seenOf h u k .pending) ≡ asked h (pendingAt u)
+    settled-is h u ok n = state-settled (seenOf h u k .pending) (no-bytes (u .prepared) ok (u .bytes) n) (q .level) h (slotOf (h .row) who) (q .brings) (q .request)
+
+    asked-agrees : AgreeOn t may (asked s (seenOf s w k .pending)) (asked z (seenOf z v k .pending))
     asked-agrees =
-        subst (λ (w : Pending). AgreeOn t may (stateBy (q .level) s (slotOf (s .row) who) (pending a) (q .request) (q .brings)) (stateBy (q .level) (b .state) (slotOf (s .row) who) w (q .request) (q .brings)))
-        (g .waiting (q .link) .pending)
-        (asked-same t may s store ts (sound a x) (sound b y) (g .state) who (q .level) (pending a) (q .request) (q .brings))
+        rw (settled-is s w (x .waiting (q .link)) (x .bytes (q .link)), settled-is z v (y .waiting (q .link)) (y .bytes (q .link)), ← g .pending (q .link))
+        (asked-same t may s z (sound a x) (sound b y) (g .state) who (q .level) (pendingAt w) (q .request) (q .brings))
 
     process-agrees : Agree t may (stepBy a who (Process q)) (stepBy b who (Process q))
     unfolding stepBy
     process-agrees =
-        let w = a .waiting (q .link) in
-        let z = waiting (q .link) in
-        let k = queryOf who q in
         let e = let-in-same a b x y who q in
-        let new = both-left SameWaiting (let-in s w k (q .room)) (let-in (b .state) z k (q .room)) e w z _ _ (g .waiting (q .link)) (waits-same s (b .state) w z (x .bytes (q .link)) (y .bytes (q .link)) (g .waiting (q .link)) k (q .room)) in
+        let new = waits-same w v (x .waiting (q .link)) (y .waiting (q .link)) (x .bytes (q .link)) (y .bytes (q .link)) (g .pending (q .link)) s z k (q .room) in
+        let left = both-left (λ (u u′ : Waiting). pendingAt u ≡ pendingAt u′) (let-in s w k (q .room)) (let-in z v k (q .room)) e w v _ _ (g .pending (q .link)) new in
         record {
-          state = both-left (AgreeOn t may) (let-in s w k (q .room)) (let-in (b .state) z k (q .room)) e s (b .state) _ _ (g .state) asked-agrees;
-          waiting = λ j. by j _ _ new (eqb j (q .link));
+          state = both-left (AgreeOn t may) (let-in s w k (q .room)) (let-in z v k (q .room)) e s z _ _ (g .state) asked-agrees;
+          pending = λ j. by j _ _ left (eqb j (q .link));
         }
       where
-        by : (j : ℕ) (u v : Waiting) → SameWaiting u v → (c : Bool) → SameWaiting (cond c u (a .waiting j)) (cond c v (waiting j))
-        by j u v same true = same
-        by j u v same false = g .waiting j
+        by : (j : ℕ) (u u′ : Waiting) → pendingAt u ≡ pendingAt u′ → (c : Bool) → pendingAt (cond c u (a .waiting j)) ≡ pendingAt (cond c u′ (b .waiting j))
+        by j u u′ same true = same
+        by j u u′ same false = g .pending j
 
   deed-agrees : (d : Deed) → Agree t may (stepBy a who d) (stepBy b who d)
   unfolding stepBy
   deed-agrees (Process q) = process-agrees q
-  deed-agrees Connect = move-agrees _ (connect-same t s store ts (sound a x) (sound b y) (g .state .kept) who)
-  deed-agrees (Disconnect bonded) = move-agrees _ (disconnect-same t s store ts (sound a x) (sound b y) (g .state .kept) who bonded)
-  deed-agrees (Set h d) = left-agrees _ _ (stored-same t may s store ts (sound a x) (sound b y) (g .state) who h d)
-  deed-agrees (SetTable saved) = left-agrees _ _ (restored-same t may s store ts (sound a x) (sound b y) (g .state) who saved)
+  deed-agrees Connect =
+      move-agrees _ _ (connecting-same (s .row) (z .row) (g .state .row) who) (connect-same t s z (sound a x) (sound b y) (g .state .list) (g .state .row) (g .state .kept) who)
+  deed-agrees (Disconnect bonded) =
+      move-agrees _ _ (leaving-same (s .row) (z .row) (g .state .row) who bonded) (disconnect-same t s z (sound a x) (sound b y) (g .state .list) (g .state .row) (g .state .kept) who bonded)
+  deed-agrees (Set h d) = left-agrees _ _ (stored-same t may s z (sound a x) (sound b y) (g .state) who h d)
+  deed-agrees (SetTable saved) = left-agrees _ _ (restored-same t may s z (sound a x) (sound b y) (g .state) who saved)
   deed-agrees (Looks l) = g
 
 pub step-agrees : (t : Identity) (may : ℕ → Bool) (c : Call) (a b : Hub) → Valid a → Valid b → Agree t may a b → Agree t may (step a c) (step b c)
-step-agrees t may c a b x y g =
-    let z = b .state in
-    subst (λ (h : Hub). Valid h → Agree t may a h → Agree t may (step a c) (step h c))
-    (λ i. record { state = state (g .state .list i) (z .store) (g .state .row i) (z .tables); waiting = b .waiting })
-    (λ v k. deed-agrees t may a (z .store) (z .tables) (b .waiting) x v k (c .who) (c .deed))
-    y g
+step-agrees t may c a b x y g = deed-agrees t may a b x y g (c .who) (c .deed)

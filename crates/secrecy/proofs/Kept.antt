@@ -2,7 +2,7 @@
 -- makes one list of one list; and a table that is nobody's, or cleared, is the list's fresh one. Assumes nothing.
 use mathlib.Core.Path.{_≡_, refl, sym, ap, _∙_}
 use mathlib.Core.Bool.{Bool, true, false, not}
-use mathlib.Core.List.{List, []}
+use mathlib.Core.List.{List, [], map}
 use mathlib.Core.Logic.{⊎-elim}
 use Prim.Native.Nat.{ℕ, _≤_, _<_}
 use native.Mathlib.Omega.{arith}
@@ -26,20 +26,23 @@ use Rattle.peers.proofs.Laws.{matches-same, usable-own-or-empty, walk-inside, s
 use Rattle.peers.proofs.Moves.{by-joining, by-leaving}
 use Rattle.peers.proofs.Changes.{OnlyAt, moved-only, new-slot, row-stays, clear-table, kept-tables, table-set}
 use Rattle.peers.proofs.Identities.{same-is}
-use Rattle.state.specs.State.{State, state}
+use Rattle.state.specs.State.{State}
 use Rattle.state.specs.Fresh.{freshTable}
 use Rattle.state.specs.Valid.{valid}
 use Rattle.state.proofs.Keeping.{eight-tables, tables-read, inside, nobodys-table, cleared-table}
 use Rattle.secrecy.specs.Valid.{Sized}
+use Rattle.secrecy.specs.Agree.{knownOf, holderOf}
+use Rattle.secrecy.proofs.Known.{fresh-same}
+use Rattle.secrecy.proofs.Rows.{slots-same, id-same}
 
 -- one list in both, in every slot of t's
 abbrev pub SameKept : Identity → List Slot → List (List ℕ) → List (List ℕ) → Type 0
 SameKept t row ts ts′ = (i : ℕ) → matches t (getD row i noSlot) ≡ true → view (getD ts i []) ≡ view (getD ts′ i [])
 
-slot-same : (t : Identity) (i : ℕ) (row new : List Slot) (ts us ts′ us′ : List (List ℕ)) → OnlyAt i row new ts us → OnlyAt i row new ts′ us′ → SameKept t row ts ts′
+at-one : (t : Identity) (i : ℕ) (row new row′ new′ : List Slot) (ts us ts′ us′ : List (List ℕ)) → OnlyAt i row new ts us → OnlyAt i row′ new′ ts′ us′ → SameKept t row ts ts′
     → (matches t (getD new i noSlot) ≡ true → view (getD us i []) ≡ view (getD us′ i []))
     → SameKept t new us us′
-slot-same t i row new ts us ts′ us′ o o′ k here j m = by (eqb j i) refl
+at-one t i row new row′ new′ ts us ts′ us′ o o′ k here j m = by (eqb j i) refl
   where
     by : (b : Bool) → eqb j i ≡ b → view (getD us j []) ≡ view (getD us′ j [])
     by true e = rw (eqb-true j i e) (here (rw (eqb-true j i e) at m))
@@ -64,50 +67,52 @@ module _ (s : State) (x : Sound s) where
   emptied : (m : Move) → m .clears ≡ true → m .place < length (s .row) → getD (tablesMoved (s .tables) m) (m .place) [] ≡ freshTable (s .list)
   emptied m c l = clear-table (s .tables) m c (there (m .place) l) ∙ cleared-table s (x .right) (x .sized .tables) (m .place) l
 
--- a state with the list and the row of another
-abbrev pub beside : State → List ℕ → List (List ℕ) → State
-beside a store ts = state (a .list) store (a .row) ts
-
--- both keep the same for t
-module _ (t : Identity) (a : State) (store : List ℕ) (ts : List (List ℕ)) (x : Sound a) (y : Sound (beside a store ts)) (k : SameKept t (a .row) (a .tables) ts) where
-  abbrev b : State
-  b = beside a store ts
+-- two states of which the same is known, and which keep the same for t
+module _ (t : Identity) (a b : State) (x : Sound a) (y : Sound b) (lists : map knownOf (a .list) ≡ map knownOf (b .list)) (rows : map holderOf (a .row) ≡ map holderOf (b .row))
+    (k : SameKept t (a .row) (a .tables) (b .tables)) where
+  within : (i : ℕ) → i < length (a .row) → i < length (b .row)
+  within i l = omega (arith, slots-same (a .row) (b .row) rows)
 
   -- a table's call, in one slot
-  pub call-same : (i : ℕ) → i < length (a .row) → (c : TableCall) → SameKept t (a .row) (set (a .tables) i (bytesAfter (getD (a .tables) i []) c)) (set ts i (bytesAfter (getD ts i []) c))
+  pub call-same : (i : ℕ) → i < length (a .row) → (c : TableCall) → SameKept t (a .row) (set (a .tables) i (bytesAfter (getD (a .tables) i []) c)) (set (b .tables) i (bytesAfter (getD (b .tables) i []) c))
   call-same i l c =
-      slot-same t i (a .row) (a .row) (a .tables) _ ts _ (table-set i (a .row) (a .tables) _) (table-set i (a .row) ts _) k
+      at-one t i (a .row) (a .row) (b .row) (b .row) (a .tables) _ (b .tables) _ (table-set i (a .row) (a .tables) _) (table-set i (b .row) (b .tables) _) k
       (λ m.
-      rw (getD-set-same (a .tables) i (bytesAfter (getD (a .tables) i []) c) [] (there a x i l), getD-set-same ts i (bytesAfter (getD ts i []) c) [] (there b y i l))
-      (call-list (getD (a .tables) i []) (read a x i l) c ∙ ap (λ xs. listAfter xs c) (k i m) ∙ sym (call-list (getD ts i []) (read b y i l) c)))
+      rw (getD-set-same (a .tables) i (bytesAfter (getD (a .tables) i []) c) [] (there a x i l), getD-set-same (b .tables) i (bytesAfter (getD (b .tables) i []) c) [] (there b y i (within i l)))
+      (call-list (getD (a .tables) i []) (read a x i l) c ∙ ap (λ xs. listAfter xs c) (k i m) ∙ sym (call-list (getD (b .tables) i []) (read b y i (within i l)) c)))
 
   -- a move: one that clears, one that leaves the tables, and one past the end of the row
   unfoldable pub MoveSame : Move → Type 0
-  MoveSame m = SameKept t (rowMoved (a .row) m) (tablesMoved (a .tables) m) (tablesMoved ts m)
+  MoveSame m = SameKept t (rowMoved (a .row) m) (tablesMoved (a .tables) m) (tablesMoved (b .tables) m)
 
-  move-same : (m : Move) → (matches t (getD (rowMoved (a .row) m) (m .place) noSlot) ≡ true → view (getD (tablesMoved (a .tables) m) (m .place) []) ≡ view (getD (tablesMoved ts m) (m .place) [])) → MoveSame m
+  move-same : (m : Move) → (matches t (getD (rowMoved (a .row) m) (m .place) noSlot) ≡ true → view (getD (tablesMoved (a .tables) m) (m .place) []) ≡ view (getD (tablesMoved (b .tables) m) (m .place) [])) → MoveSame m
   unfolding MoveSame
   move-same m here =
-      slot-same t (m .place) (a .row) _ (a .tables) _ ts _ (moved-only (a .row) (a .tables) m) (moved-only (a .row) ts m) k here
+      at-one t (m .place) (a .row) _ (b .row) _ (a .tables) _ (b .tables) _ (moved-only (a .row) (a .tables) m) (moved-only (b .row) (b .tables) m) k here
 
   emptied-same : (m : Move) → m .clears ≡ true → m .place < length (a .row) → MoveSame m
-  emptied-same m c l = move-same m (λ o. ap view (emptied a x m c l ∙ sym (emptied b y m c l)))
+  emptied-same m c l =
+      move-same m (λ o. ap view (emptied a x m c l ∙ fresh-same (a .list) (b .list) lists ∙ sym (emptied b y m c (within (m .place) l))))
 
-  owned-same : (m : Move) → m .clears ≡ false → m .place < length (a .row) → (matches t (m .slot) ≡ true → view (getD (a .tables) (m .place) []) ≡ view (getD ts (m .place) [])) → MoveSame m
+  owned-same : (m : Move) → m .clears ≡ false → m .place < length (a .row) → (matches t (m .slot) ≡ true → view (getD (a .tables) (m .place) []) ≡ view (getD (b .tables) (m .place) [])) → MoveSame m
   owned-same m c l e =
-      move-same m (λ o. rw (kept-tables (a .tables) m c, kept-tables ts m c) (e (rw (new-slot (a .row) m l) at o)))
+      move-same m (λ o. rw (kept-tables (a .tables) m c, kept-tables (b .tables) m c) (e (rw (new-slot (a .row) m l) at o)))
 
   stay-same : (m : Move) → m .clears ≡ false → length (a .row) ≤ m .place → MoveSame m
   unfolding MoveSame
-  stay-same m c h = rw (row-stays (a .row) m h, kept-tables (a .tables) m c, kept-tables ts m c) k
+  stay-same m c h = rw (row-stays (a .row) m h, kept-tables (a .tables) m c, kept-tables (b .tables) m c) k
 
   -- connecting: a slot that is usable, and its new owner
-  usable-same : (who : Identity) (i : ℕ) → i < length (a .row) → wanted Usable who (getD (a .row) i noSlot) ≡ true → matches t (taken who) ≡ true → view (getD (a .tables) i []) ≡ view (getD ts i [])
+  usable-same : (who : Identity) (i : ℕ) → i < length (a .row) → wanted Usable who (getD (a .row) i noSlot) ≡ true → matches t (taken who) ≡ true → view (getD (a .tables) i []) ≡ view (getD (b .tables) i [])
   usable-same who i l u e =
       ⊎-elim
       (λ (m : matches who (getD (a .row) i noSlot) ≡ true). k i (rw (same-is who t (sym (matches-same t (taken who)) ∙ e)) at m))
       (λ (h : isEmpty (getD (a .row) i noSlot .id) ≡ true).
-      ap view (nobodys-table a (x .right) (x .sized .tables) i l h ∙ sym (nobodys-table b (y .right) (y .sized .tables) i l h)))
+      let h′ : isEmpty (getD (b .row) i noSlot .id) ≡ true = ap isEmpty (sym (id-same (a .row) (b .row) rows i)) ∙ h in
+      ap view
+      (nobodys-table a (x .right) (x .sized .tables) i l h
+      ∙ fresh-same (a .list) (b .list) lists
+      ∙ sym (nobodys-table b (y .right) (y .sized .tables) i (within i l) h′)))
       (usable-own-or-empty who (getD (a .row) i noSlot) u)
 
   pub connect-same : (who : Identity) → MoveSame (connecting (a .row) who)

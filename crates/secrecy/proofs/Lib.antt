@@ -4,8 +4,12 @@ pub mod Sizes
 pub mod Valid
 pub mod Apart
 pub mod Written
+pub mod Known
+pub mod Rows
 pub mod Kept
 pub mod Shared
 pub mod Waiting
 pub mod Agree
 pub mod Secret
+pub mod Replies
+pub mod Witness

@@ -17,7 +17,7 @@ use Rattle.peers.specs.declared.Identity.{Identity}
 use Rattle.peers.specs.declared.Slot.{Slot}
 use Rattle.peers.specs.declared.Want.the-variants.{Own}
 use Rattle.peers.proofs.Laws.{wanted-own}
-use Rattle.state.specs.State.{State, state}
+use Rattle.state.specs.State.{State}
 use Rattle.model.specs.Change.{ownTables, putAt}
 use Rattle.application.specs.Calls.{restoredAt, restored}
 
@@ -40,22 +40,27 @@ module _ (ts ts′ : List (List ℕ)) (slot : Found) (R : List (List ℕ) → Li
   if-own true x y new = new
   if-own false x y new = old
 
-  -- a value put, and a saved table taken in
-  pub both-put : (list : List (List ℕ)) (store store′ : List ℕ) (row : List Slot) (i off : ℕ) (d : List ℕ)
-      → R (putAt (state list store row ts) slot i off d .tables) (putAt (state list store′ row ts′) slot i off d .tables)
-  unfolding putAt
-  both-put list store store′ row i off d =
-      let a = attributeOf (getD list i []) in
-      if-own (a .client) _ _ (own-put slot refl (a .handle) off d)
-
+  -- a saved table taken in
   pub both-restored : (saved : List ℕ) → R (restored ts slot saved) (restored ts′ slot saved)
   unfolding restored
   both-restored saved = if-own (accepts saved) _ _ (own-restored slot refl saved)
 
+  -- a value put, under one handle
+  one-put : (c c′ : Bool) → c ≡ c′ → (h h′ : ℕ) → h ≡ h′ → (off : ℕ) (d : List ℕ) → R (cond c (ownTables ts slot h off d) ts) (cond c′ (ownTables ts′ slot h′ off d) ts′)
+  one-put c c′ e h h′ f off d = rw (← e, ← f) (if-own c _ _ (own-put slot refl h off d))
+
+module _ (a b : State) (slot : Found) (R : List (List ℕ) → List (List ℕ) → Type 0) (old : R (a .tables) (b .tables))
+    (call : (k : ℕ) → slot ≡ At k → (c : TableCall) → R (set (a .tables) k (bytesAfter (getD (a .tables) k []) c)) (set (b .tables) k (bytesAfter (getD (b .tables) k []) c))) where
+  pub both-put : (i off : ℕ) (d : List ℕ) → attributeOf (getD (a .list) i []) .client ≡ attributeOf (getD (b .list) i []) .client
+      → attributeOf (getD (a .list) i []) .handle ≡ attributeOf (getD (b .list) i []) .handle
+      → R (putAt a slot i off d .tables) (putAt b slot i off d .tables)
+  unfolding putAt
+  both-put i off d c h = one-put (a .tables) (b .tables) slot R old call _ _ c _ _ h off d
+
 -- of one hub
 module _ (s : State) (slot : Found) (P : List (List ℕ) → Type 0) (old : P (s .tables)) (call : (k : ℕ) → slot ≡ At k → (c : TableCall) → P (set (s .tables) k (bytesAfter (getD (s .tables) k []) c))) where
   pub tables-put : (i off : ℕ) (d : List ℕ) → P (putAt s slot i off d .tables)
-  tables-put = both-put (s .tables) (s .tables) slot (λ x y. P x) old call (s .list) (s .store) (s .store) (s .row)
+  tables-put i off d = both-put s s slot (λ x y. P x) old call i off d refl refl
 
   pub tables-restored : (saved : List ℕ) → P (restored (s .tables) slot saved)
   tables-restored = both-restored (s .tables) (s .tables) slot (λ x y. P x) old call

@@ -4,6 +4,7 @@ use mathlib.Core.Bool.{Bool, true, false, cond}
 use mathlib.Core.List.{List, [], _∷_, _++_}
 use Rattle.wire.specs.Run.{afterAll}
 use Prim.Native.Nat.{ℕ, _<_}
+use native.Mathlib.Omega.{arith}
 use lib.ListN.{length, getD}
 use Rattle.wire.specs.declared.Found.{Found}
 use Rattle.wire.specs.declared.Found.the-variants.{At, Nothing}
@@ -18,7 +19,7 @@ use Rattle.peers.specs.Slots.{slotOf}
 use Rattle.peers.specs.declared.Identity.{Identity}
 use Rattle.state.specs.State.{State}
 use Rattle.state.proofs.Keeping.{right-list}
-use Rattle.model.specs.View.{View, ownTable, tableAt, seenAll}
+use Rattle.model.specs.View.{View, ownTable, tableAt, pendingOf}
 use Rattle.model.specs.Answer.{requestTold}
 use Rattle.model.specs.Told.{Answered}
 use Rattle.model.specs.declared.Request.{Request}
@@ -28,11 +29,15 @@ use Rattle.admission.specs.Admission.{toldIf}
 use Rattle.attribute_server.specs.Request.{seenOf}
 use Rattle.secrecy.specs.Hub.{Hub, Asked, Deed, Process, Connect, Disconnect, Set, SetTable, Looks, Call, queryOf, toldBy, callTold, step}
 use Rattle.secrecy.specs.Valid.{Valid}
-use Rattle.secrecy.specs.Secret.{isCompared, isRequest, asks, heard, isGranted, reaches, everReaches, attributeAt, Agree, Secrecy, requestBy, SecretAnswers}
+use Rattle.secrecy.specs.Agree.{knownOf, pendingAt, attributeAt, Agree}
+use Rattle.secrecy.specs.Secret.{isCompared, isRequest, asks, heard, isGranted, reaches, everReaches, Secrecy, requestBy, SecretAnswers}
 use Rattle.peers.proofs.Identities.{same-is, same-self}
 use Rattle.storing.proofs.Writing.{item-length}
 use Rattle.model.proofs.Telling.{one-answered}
 use Rattle.secrecy.proofs.Own.{found-own}
+use Rattle.secrecy.proofs.Known.{length-same, fields-same, lengths-same}
+use Rattle.secrecy.proofs.Rows.{slot-same}
+use Rattle.secrecy.proofs.Waiting.{told-settled, no-bytes}
 use Rattle.secrecy.proofs.Valid.{step-valid, all-valid}
 use Rattle.secrecy.proofs.Promised.{process-is}
 use Rattle.secrecy.proofs.Agree.{let-in-same, step-agrees}
@@ -56,40 +61,55 @@ module _ (t : Identity) (may : ℕ → Bool) (a b : Hub) (x : Valid a) (y : Vali
 
   own-same : view (ownTable (s .row) (s .tables) t) ≡ view (ownTable (z .row) (z .tables) t)
   unfolding tableAt
-  own-same = rw (← g .state .row) (by (slotOf (s .row) t) refl)
+  own-same = rw (← slot-same (s .row) (z .row) (g .state .row) t) (by (slotOf (s .row) t) refl)
     where
       by : (f : Found) → slotOf (s .row) t ≡ f → view (tableAt (s .tables) f) ≡ view (tableAt (z .tables) f)
       by Nothing e = refl
       by (At k) e = g .state .kept k (found-own (s .row) t k e)
 
+  entries-same : length (s .list) ≡ length (z .list)
+  entries-same = length-same knownOf (s .list) (z .list) (g .state .list)
+
   module _ (q : Asked) (reach : (need : ℕ) → accessOf (q .level) 0x02 need ≡ Granted → may need ≡ true) where
-    alike : (i : ℕ) → i < length (s .list) → Alike (q .level) (getD (s .list) i []) (s .store) (z .store) (ownTable (s .row) (s .tables) t) (ownTable (z .row) (z .tables) t) own-same
+    alike : (i : ℕ) → i < length (s .list) → Alike (q .level) (getD (s .list) i []) (getD (z .list) i []) (s .store) (z .store)
     alike i l =
+        let f = fields-same (s .list) (z .list) (g .state .list) i in
         record {
+          entry = f .entry;
           value = λ m c. g .state .shared i l c (reach (attributeAt s i .reads) m);
           size =
               λ c.
               item-length (s .list) (s .store) (right-list s (x .state)) i l c
-              ∙ sym (rw (g .state .list) (item-length (z .list) (z .store) (right-list z (y .state)) i (rw (← g .state .list) l) (rw (← g .state .list) c)));
+              ∙ lengths-same (s .list) (z .list) (g .state .list) i c
+              ∙ sym (item-length (z .list) (z .store) (right-list z (y .state)) i (omega (arith, entries-same)) (sym (f .client) ∙ c));
         }
 
+    -- what t sees, but for an offset under handle 0
     abbrev seen : Hub → View
-    seen h = seenOf (h .state) (h .waiting (q .link)) (queryOf t q)
+    seen h =
+        record { attrs = seenOf (h .state) (h .waiting (q .link)) (queryOf t q) .attrs; pending = pendingAt (h .waiting (q .link)) }
 
     seen-same : seen a ≡ seen b
     seen-same =
         λ i.
         record {
-          attrs = (all-seen-same (q .level) (s .list) (s .store) (z .store) _ _ own-same alike ∙ ap (λ (list : List (List ℕ)). seenAll (q .level) list (z .store) (ownTable (z .row) (z .tables) t)) (g .state .list)) i;
-          pending = g .waiting (q .link) .pending i;
+          attrs = all-seen-same (q .level) (s .list) (z .list) (s .store) (z .store) _ _ own-same entries-same alike i;
+          pending = g .pending (q .link) i;
         }
+
+    by-seen : (h : Hub) → Valid h → requestTold (seenOf (h .state) (h .waiting (q .link)) (queryOf t q)) (h .state .list) (h .state .store) (q .room) (q .request) (q .brings) ≡ requestTold (seen h) (h .state .list) (h .state .store) (q .room) (q .request) (q .brings)
+    by-seen h v =
+        let w = h .waiting (q .link) in
+        told-settled (pendingOf (w .prepared) (w .bytes)) (no-bytes (w .prepared) (v .waiting (q .link)) (w .bytes) (v .bytes (q .link))) (seen h .attrs) (h .state .list) (h .state .store) (q .room) (q .request) (q .brings)
 
     answer-same : isCompared (q .request) ≡ true → toldBy a t (Process q) ≡ toldBy b t (Process q)
     unfolding toldBy
     answer-same e =
         ap₂ toldIf (let-in-same a b x y t q)
-        (by-view (seen a) (s .list) (z .list) (s .store) (z .store) (q .room) (q .request) (q .brings) e
-        ∙ ap (λ (v : View). requestTold v (z .list) (z .store) (q .room) (q .request) (q .brings)) seen-same)
+        (by-seen a x
+        ∙ by-view (seen a) (s .list) (z .list) (s .store) (z .store) (q .room) (q .request) (q .brings) e
+        ∙ ap (λ (v : View). requestTold v (z .list) (z .store) (q .room) (q .request) (q .brings)) seen-same
+        ∙ sym (by-seen b y))
 
 -- a request is one of t's
 granted : (r : Access) → r ≡ Granted → isGranted r ≡ true
@@ -112,7 +132,7 @@ fewer t may less a b w g =
     let k = g .state in
     record {
       state = record { list = k .list; row = k .row; shared = λ i l c m. k .shared i l c (w _ m); kept = k .kept };
-      waiting = g .waiting;
+      pending = g .pending;
     }
 
 -- what a link meets in a call is met among the calls
@@ -157,12 +177,17 @@ after-all t [] rest a b x y g = g
 after-all t (c ∷ cs) rest a b x y g =
     after-all t cs rest (step a c) (step b c) (step-valid a c x) (step-valid b c y) (after-one t c (cs ++ rest) a b x y g)
 
-pub secret-answers : SecretAnswers
+pub told-after : (t : Identity) (calls : List Call) (q : Asked) (a b : Hub) → Valid a → Valid b → Agree t (everReaches t (calls ++ (requestBy t q ∷ []))) a b → isCompared (q .request) ≡ true
+    → callTold (afterAll step a calls) (requestBy t q) ≡ callTold (afterAll step b calls) (requestBy t q)
 unfolding isRequest
-secret-answers t calls q a b x y g e out n r r′ p p′ =
+told-after t calls q a b x y g e =
     let c = requestBy t q in
+    told-now t c [] (afterAll step a calls) (afterAll step b calls) (all-valid a x calls) (all-valid b y calls) (after-all t calls (c ∷ []) a b x y g) (both-true _ _ (same-self t) e)
+
+pub secret-answers : SecretAnswers
+secret-answers t calls q a b x y g e out n r r′ p p′ =
     let a₁ = afterAll step a calls in
     let b₁ = afterAll step b calls in
-    let one : callTold a₁ c ≡ callTold b₁ c = told-now t c [] a₁ b₁ (all-valid a x calls) (all-valid b y calls) (after-all t calls (c ∷ []) a b x y g) (both-true _ _ (same-self t) e) in
-    let same = one-answered out (r .out) (r′ .out) (r .answer) (r′ .answer) (callTold b₁ c) (subst (Answered out (r .out) (r .answer)) one (process-is a₁ t q out n r p .0)) (process-is b₁ t q out n r′ p′ .0) in
+    let one = told-after t calls q a b x y g e in
+    let same = one-answered out (r .out) (r′ .out) (r .answer) (r′ .answer) (callTold b₁ (requestBy t q)) (subst (Answered out (r .out) (r .answer)) one (process-is a₁ t q out n r p .0)) (process-is b₁ t q out n r′ p′ .0) in
     (same .answer, same .out)

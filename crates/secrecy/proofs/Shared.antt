@@ -1,17 +1,18 @@
--- A write keeps two states in agreement, whoever's it is: the list afterwards is decided by the list, a shared value by
--- that value, and a table's list by that list. Assumes nothing.
-use mathlib.Core.Path.{_≡_, refl, sym, ap, _∙_}
+-- A write keeps two states in agreement, whoever's it is: what is known of the list afterwards is decided by what was
+-- known of it, a shared value by that value, and a table's list by that list. Assumes nothing.
+use mathlib.Core.Path.{_≡_, refl, sym, ap, subst, _∙_}
 use mathlib.Core.Bool.{Bool, true, false}
-use mathlib.Core.List.{List, []}
+use mathlib.Core.List.{List, [], map}
 use Prim.Native.Nat.{ℕ, _<_}
+use native.Mathlib.Omega.{arith}
 use lib.Dec.{eqb}
 use lib.ListN.{length, getD, set}
 use borrow.Author.Tests.{eqb-true, eqb-false}
 use Rattle.wire.specs.declared.Found.{Found}
 use Rattle.wire.specs.declared.Found.the-variants.{At}
 use Rattle.client_att_table.specs.AsList.{TableCall, bytesAfter, itemAfter}
-use Rattle.attribute.specs.Record.{Entry, entryOf, attributeOf}
 use Rattle.attribute.specs.Lookup.{placeOf}
+use Rattle.attribute.specs.Needs.{accessOf}
 use Rattle.attribute.specs.Rules.{listOk}
 use Rattle.attribute.specs.declared.Link.{Link}
 use Rattle.peers.specs.Slots.{slotOf}
@@ -23,42 +24,41 @@ use Rattle.model.specs.Value.{sharedItem}
 use Rattle.model.specs.View.{Pending}
 use Rattle.model.specs.Change.{putAt, stateBy}
 use Rattle.model.specs.declared.Request.{Request}
-use Rattle.application.specs.Calls.{storeLeft, restored}
+use Rattle.application.specs.Calls.{isWrongLength, storeLeft, restored}
 use Rattle.storing.proofs.Shared.{item-put, put-entry, entry-stays, value-stays, put-count}
 use Rattle.model.proofs.Leaving as requests
 use Rattle.application.proofs.Leaving as sets
-use Rattle.secrecy.specs.Secret.{attributeAt, AgreeOn}
+use Rattle.secrecy.specs.Agree.{knownOf, holderOf, attributeAt, AgreeOn}
+use Rattle.secrecy.proofs.Known.{SameFields, entry-fields, length-same, places-same, fields-same, put-known}
+use Rattle.secrecy.proofs.Rows.{slot-same}
 use Rattle.secrecy.proofs.Own.{both-put, both-restored}
-use Rattle.secrecy.proofs.Kept.{SameKept, Sound, beside, call-same}
+use Rattle.secrecy.proofs.Kept.{SameKept, Sound, call-same}
 
--- the fields of an entry that no write changes
-client-of : (r r′ : List ℕ) → entryOf r ≡ entryOf r′ → attributeOf r .client ≡ attributeOf r′ .client
-unfolding entryOf
-client-of r r′ e = ap (λ (x : Entry). x .client) e
-
-reads-of : (r r′ : List ℕ) → entryOf r ≡ entryOf r′ → attributeOf r .reads ≡ attributeOf r′ .reads
-unfolding entryOf
-reads-of r r′ e = ap (λ (x : Entry). x .reads) e
-
-module _ (t : Identity) (may : ℕ → Bool) (a : State) (store : List ℕ) (ts : List (List ℕ)) (x : Sound a) (y : Sound (beside a store ts)) (same : AgreeOn t may a (beside a store ts)) (who : Identity) where
-  abbrev b : State
-  b = beside a store ts
-
+module _ (t : Identity) (may : ℕ → Bool) (a b : State) (x : Sound a) (y : Sound b) (same : AgreeOn t may a b) (who : Identity) where
   abbrev slot : Found
   slot = slotOf (a .row) who
 
+  own : slotOf (a .row) who ≡ slotOf (b .row) who
+  own = slot-same (a .row) (b .row) (same .row) who
+
+  fields : (i : ℕ) → SameFields (getD (a .list) i []) (getD (b .list) i [])
+  fields i = fields-same (a .list) (b .list) (same .list) i
+
+  within : (i : ℕ) → i < length (a .list) → i < length (b .list)
+  within i l = omega (arith, length-same knownOf (a .list) (b .list) (same .list))
+
   -- a call of the table in the slot of a peer
-  at-slot : (k : ℕ) → slot ≡ At k → (c : TableCall) → SameKept t (a .row) (set (a .tables) k (bytesAfter (getD (a .tables) k []) c)) (set ts k (bytesAfter (getD ts k []) c))
-  at-slot k e c = call-same t a store ts x y (same .kept) k (slot-inside (a .row) who k e) c
+  at-slot : (k : ℕ) → slot ≡ At k → (c : TableCall) → SameKept t (a .row) (set (a .tables) k (bytesAfter (getD (a .tables) k []) c)) (set (b .tables) k (bytesAfter (getD (b .tables) k []) c))
+  at-slot k e c = call-same t a b x y (same .list) (same .row) (same .kept) k (slot-inside (a .row) who k e) c
 
   -- `set_client_att_table`
-  pub restored-same : (saved : List ℕ) → AgreeOn t may (withTables a (restored (a .tables) (slotOf (a .row) who) saved)) (withTables (beside a store ts) (restored ts (slotOf (a .row) who) saved))
+  pub restored-same : (saved : List ℕ) → AgreeOn t may (withTables a (restored (a .tables) (slotOf (a .row) who) saved)) (withTables b (restored (b .tables) (slotOf (b .row) who) saved))
   restored-same saved =
       record {
-        list = refl;
-        row = refl;
+        list = same .list;
+        row = same .row;
         shared = same .shared;
-        kept = both-restored (a .tables) ts slot (SameKept t (a .row)) (same .kept) at-slot saved;
+        kept = rw (← own) (both-restored (a .tables) (b .tables) slot (SameKept t (a .row)) (same .kept) at-slot saved);
       }
 
   -- a write by place
@@ -72,49 +72,47 @@ module _ (t : Identity) (may : ℕ → Bool) (a : State) (store : List ℕ) (ts 
     ok : listOk (a .list) (length (a .store)) ≡ true
     ok = right-list a (x .right)
 
-    ok′ : listOk (a .list) (length store) ≡ true
+    ok′ : listOk (b .list) (length (b .store)) ≡ true
     ok′ = right-list b (y .right)
 
-    list-same : a′ .list ≡ b′ .list
-    unfolding putAt
-    list-same = refl
+    list-same : map knownOf (a′ .list) ≡ map knownOf (b′ .list)
+    list-same = put-known a b (same .list) slot i off d (x .sized .records i l) (y .sized .records i (within i l))
 
-    row-same : a′ .row ≡ b′ .row
+    row-same : map holderOf (a′ .row) ≡ map holderOf (b′ .row)
     unfolding putAt
-    row-same = refl
+    row-same = same .row
 
     kept-same : SameKept t (a′ .row) (a′ .tables) (b′ .tables)
     unfolding putAt
-    kept-same = both-put (a .tables) ts slot (SameKept t (a .row)) (same .kept) at-slot (a .list) (a .store) store (a .row) i off d
+    kept-same = both-put a b slot (SameKept t (a .row)) (same .kept) at-slot i off d (fields i .client) (fields i .handle)
 
     -- the value that is written, and every other
-    here-same : attributeAt a i .client ≡ false → may (attributeAt a i .reads) ≡ true → sharedItem (a′ .store) (attributeAt a′ i) ≡ sharedItem (b′ .store) (attributeAt a′ i)
+    here-same : attributeAt a i .client ≡ false → may (attributeAt a i .reads) ≡ true → sharedItem (a′ .store) (attributeAt a′ i) ≡ sharedItem (b′ .store) (attributeAt b′ i)
     here-same c m =
         item-put a ok (x .sized .records) slot i l off d c
         ∙ ap (itemAfter off d) (same .shared i l c m)
-        ∙ sym (item-put b ok′ (y .sized .records) slot i l off d c)
-        ∙ ap (λ (new : List (List ℕ)). sharedItem (b′ .store) (attributeOf (getD new i []))) (sym list-same)
+        ∙ sym (item-put b ok′ (y .sized .records) slot i (within i l) off d (sym (fields i .client) ∙ c))
 
-    there-same : (j : ℕ) → (j ≡ i → ⊥) → j < length (a .list) → attributeAt a j .client ≡ false → may (attributeAt a j .reads) ≡ true → sharedItem (a′ .store) (attributeAt a′ j) ≡ sharedItem (b′ .store) (attributeAt a′ j)
+    there-same : (j : ℕ) → (j ≡ i → ⊥) → j < length (a .list) → attributeAt a j .client ≡ false → may (attributeAt a j .reads) ≡ true → sharedItem (a′ .store) (attributeAt a′ j) ≡ sharedItem (b′ .store) (attributeAt b′ j)
     there-same j n lj c m =
-        rw (entry-stays a ok (x .sized .records) slot i l off d j n)
+        rw (entry-stays a ok (x .sized .records) slot i l off d j n, entry-stays b ok′ (y .sized .records) slot i (within i l) off d j n)
         (value-stays a ok (x .sized .records) slot i l off d j lj n c
         ∙ same .shared j lj c m
-        ∙ sym (value-stays b ok′ (y .sized .records) slot i l off d j lj n c))
+        ∙ sym (value-stays b ok′ (y .sized .records) slot i (within i l) off d j (within j lj) n (sym (fields j .client) ∙ c)))
 
-    shared-same : (j : ℕ) → j < length (a′ .list) → attributeAt a′ j .client ≡ false → may (attributeAt a′ j .reads) ≡ true → sharedItem (a′ .store) (attributeAt a′ j) ≡ sharedItem (b′ .store) (attributeAt a′ j)
+    shared-same : (j : ℕ) → j < length (a′ .list) → attributeAt a′ j .client ≡ false → may (attributeAt a′ j .reads) ≡ true → sharedItem (a′ .store) (attributeAt a′ j) ≡ sharedItem (b′ .store) (attributeAt b′ j)
     shared-same j lj c m = by (eqb j i) refl
       where
-        e : entryOf (getD (a′ .list) j []) ≡ entryOf (getD (a .list) j [])
-        e = put-entry a ok (x .sized .records) slot i l off d j
+        f : SameFields (getD (a′ .list) j []) (getD (a .list) j [])
+        f = entry-fields _ _ (put-entry a ok (x .sized .records) slot i l off d j)
 
         c₀ : attributeAt a j .client ≡ false
-        c₀ = sym (client-of _ _ e) ∙ c
+        c₀ = sym (f .client) ∙ c
 
         m₀ : may (attributeAt a j .reads) ≡ true
-        m₀ = ap may (sym (reads-of _ _ e)) ∙ m
+        m₀ = ap may (sym (f .reads)) ∙ m
 
-        by : (z : Bool) → eqb j i ≡ z → sharedItem (a′ .store) (attributeAt a′ j) ≡ sharedItem (b′ .store) (attributeAt a′ j)
+        by : (z : Bool) → eqb j i ≡ z → sharedItem (a′ .store) (attributeAt a′ j) ≡ sharedItem (b′ .store) (attributeAt b′ j)
         by true q = rw (eqb-true j i q) (here-same (rw (eqb-true j i q) at c₀) (rw (eqb-true j i q) at m₀))
         by false q = there-same j (eqb-false j i q) (rw (put-count a ok (x .sized .records) slot i l off d) at lj) c₀ m₀
 
@@ -122,10 +120,16 @@ module _ (t : Identity) (may : ℕ → Bool) (a : State) (store : List ℕ) (ts 
     put-same = record { list = list-same; row = row-same; shared = shared-same; kept = kept-same }
 
   -- a request, and `set`
-  pub asked-same : (link : Link) (w : Pending) (rq : Request) (d : List ℕ) → AgreeOn t may (stateBy link a (slotOf (a .row) who) w rq d) (stateBy link (beside a store ts) (slotOf (a .row) who) w rq d)
-  asked-same link w rq d =
-      requests.both-leave link (a .list) (a .store) store (a .row) (a .tables) ts slot (AgreeOn t may) same (λ i l m off e. put-same i l off e) w rq d
+  wrong-same : (n i : ℕ) → isWrongLength (attributeAt a i) n ≡ isWrongLength (attributeAt b i) n
+  unfolding isWrongLength
+  wrong-same n i = rw (fields i .variable, fields i .cap)
 
-  pub stored-same : (h : ℕ) (d : List ℕ) → AgreeOn t may (storeLeft a (slotOf (a .row) who) (placeOf (a .list) h) d) (storeLeft (beside a store ts) (slotOf (a .row) who) (placeOf (a .list) h) d)
+  pub asked-same : (link : Link) (w : Pending) (rq : Request) (d : List ℕ) → AgreeOn t may (stateBy link a (slotOf (a .row) who) w rq d) (stateBy link b (slotOf (b .row) who) w rq d)
+  asked-same link w rq d =
+      subst (λ (f : Found). AgreeOn t may (stateBy link a slot w rq d) (stateBy link b f w rq d)) own
+      (requests.both-leave link a b slot (AgreeOn t may) same (places-same (a .list) (b .list) (same .list)) (λ i. ap (accessOf link 0x03) (fields i .writes)) (λ i l m off e. put-same i l off e) w rq d)
+
+  pub stored-same : (h : ℕ) (d : List ℕ) → AgreeOn t may (storeLeft a (slotOf (a .row) who) (placeOf (a .list) h) d) (storeLeft b (slotOf (b .row) who) (placeOf (b .list) h) d)
   stored-same h d =
-      sets.both-leave (a .list) (a .row) (a .store) store (a .tables) ts slot d (AgreeOn t may) same (λ i l. put-same i l 0 d) h
+      subst (λ (f : Found). AgreeOn t may (storeLeft a slot (placeOf (a .list) h) d) (storeLeft b f (placeOf (b .list) h) d)) own
+      (sets.both-leave a b slot d (AgreeOn t may) same (places-same (a .list) (b .list) (same .list)) (wrong-same (length d)) (λ i l. put-same i l 0 d) h)

@@ -23,7 +23,8 @@ use Rattle.attribute_server.specs.Request.{seenOf, let-in}
 use Rattle.admission.specs.declared.Admission.{Admission}
 use Rattle.secrecy.specs.Hub.{Hub, Deed, Process, Connect, Disconnect, Set, SetTable, Looks, queryOf, stepBy}
 use Rattle.secrecy.specs.Valid.{Valid}
-use Rattle.secrecy.specs.Secret.{isGranted, attributeAt}
+use Rattle.secrecy.specs.Agree.{attributeAt}
+use Rattle.secrecy.specs.Secret.{isGranted}
 use Rattle.secrecy.specs.Untouched.{mayChange, SameShared, WrittenByRight}
 use Rattle.secrecy.proofs.Sizes.{left-either}
 

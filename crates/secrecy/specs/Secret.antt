@@ -1,30 +1,26 @@
 -- Demand 3: two hubs that agree on all that tablet t may see, given the same calls in the same order, answer every
 -- request of t with the same bytes and count. Assumes nothing.
-use Prim.Native.Nat.{ℕ, _<_}
+use Prim.Native.Nat.{ℕ}
 use mathlib.Core.Path.{_≡_}
 use mathlib.Core.Bool.{Bool, true, false, cond}
 use mathlib.Core.List.{List, [], _∷_, _++_}
-use lib.ListN.{length, getD}
+use lib.ListN.{length}
 use Rattle.wire.specs.Test.{both}
 use Rattle.wire.specs.Run.{afterAll}
-use Rattle.table_view.specs.View.{view}
 use Rattle.table_view.specs.Told.{Told}
-use Rattle.attribute.specs.Record.{attributeOf}
 use Rattle.attribute.specs.Needs.{accessOf}
-use Rattle.attribute.specs.declared.Attribute.{Attribute}
 use Rattle.attribute.specs.declared.Access.{Access}
 use Rattle.peers.specs.Identity.{sameId}
-use Rattle.peers.specs.Slots.{matches, noSlot}
 use Rattle.peers.specs.declared.Identity.{Identity}
 use Rattle.state.specs.State.{State, Waiting}
-use Rattle.model.specs.Value.{sharedItem}
-use Rattle.model.specs.View.{ifMet, pendingOf}
+use Rattle.model.specs.View.{ifMet}
 use Rattle.model.specs.declared.Answer.{Answer}
 use Rattle.model.specs.declared.Request.{Request}
 use Rattle.model.specs.declared.Request.the-variants as request
 use Rattle.attribute_server.specs.Request.{Processed}
 use Rattle.secrecy.specs.Hub.{Hub, Asked, Deed, Process, Connect, Disconnect, Set, SetTable, Looks, Call, queryOf, callTold, step}
 use Rattle.secrecy.specs.Valid.{Valid}
+use Rattle.secrecy.specs.Agree.{Agree}
 
 -- THE EXCEPTION: the answer to Find By Type Value is not compared, since it looks at every shared value, whoever asks
 unfoldable pub isCompared : Request → Bool
@@ -62,30 +58,6 @@ reaches t need c = both (sameId (c .who) t) (isRequest (λ q. isGranted (accessO
 unfoldable pub everReaches : Identity → List Call → ℕ → Bool
 everReaches t [] need = false
 everReaches t (c ∷ cs) need = cond (reaches t need c) true (everReaches t cs need)
-
--- the same prepared write; the bytes past its length may differ
-pub record SameWaiting (x y : Waiting) : Type 0 where
-  pub prepared : x .prepared ≡ y .prepared
-  pub pending : pendingOf (x .prepared) (x .bytes) ≡ pendingOf (y .prepared) (y .bytes)
-
-abbrev pub attributeAt : State → ℕ → Attribute
-attributeAt s i = attributeOf (getD (s .list) i [])
-
--- what two states agree on, where t's links meet the needs of `may`
-pub record AgreeOn (t : Identity) (may : ℕ → Bool) (a b : State) : Type 0 where
-  -- the attribute list, and with it the lengths of shared values
-  pub list : a .list ≡ b .list
-  -- the tablets' records: identities, connected or not
-  pub row : a .row ≡ b .row
-  -- every shared value that t may read
-  pub shared : (i : ℕ) → i < length (a .list) → attributeAt a i .client ≡ false → may (attributeAt a i .reads) ≡ true → sharedItem (a .store) (attributeAt a i) ≡ sharedItem (b .store) (attributeAt a i)
-  -- all values kept for t, in every slot of t's
-  pub kept : (i : ℕ) → matches t (getD (a .row) i noSlot) ≡ true → view (getD (a .tables) i []) ≡ view (getD (b .tables) i [])
-
--- what two hubs agree on: that, and the prepared writes of every link
-pub record Agree (t : Identity) (may : ℕ → Bool) (a b : Hub) : Type 0 where
-  pub state : AgreeOn t may (a .state) (b .state)
-  pub waiting : (i : ℕ) → SameWaiting (a .waiting i) (b .waiting i)
 
 abbrev pub Secrecy : Type 0
 Secrecy =

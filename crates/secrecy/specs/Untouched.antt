@@ -15,7 +15,8 @@ use Rattle.state.specs.State.{State}
 use Rattle.model.specs.Value.{sharedItem}
 use Rattle.secrecy.specs.Hub.{Hub, Deed, Process, Connect, Disconnect, Set, SetTable, Looks, Call, step}
 use Rattle.secrecy.specs.Valid.{Valid}
-use Rattle.secrecy.specs.Secret.{isGranted, attributeAt}
+use Rattle.secrecy.specs.Agree.{attributeAt}
+use Rattle.secrecy.specs.Secret.{isGranted}
 
 -- slot j and every byte of its table stand as they did
 pub record SameSlot (s s′ : State) (j : ℕ) : Type 0 where
