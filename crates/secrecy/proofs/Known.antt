@@ -29,7 +29,7 @@ module _ {A B : Type 0} (f : A → B) where
   walk-map p q e [] i = refl
   walk-map p q e (x ∷ l) i = rw (e x, walk-map p q e l (suc i))
 
-  pub map-set : (l : List A) (i : ℕ) (x : A) → map f (set l i x) ≡ set (map f l) i (f x)
+  map-set : (l : List A) (i : ℕ) (x : A) → map f (set l i x) ≡ set (map f l) i (f x)
   map-set [] i x = refl
   map-set (y ∷ l) zero x = refl
   map-set (y ∷ l) (suc i) x = ap (λ (r : List B). f y ∷ r) (map-set l i x)
