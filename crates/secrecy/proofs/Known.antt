@@ -29,7 +29,7 @@ module _ {A B : Type 0} (f : A → B) where
   walk-map p q e [] i = refl
   walk-map p q e (x ∷ l) i = rw (e x, walk-map p q e l (suc i))
 
-  pub map-set : (l : List A) (i : ℕ) (x : A) → map f (set l i x) ≡ set (map f l) i (f x)
+  map-set : (l : List A) (i : ℕ) (x : A) → map f (set l i x) ≡ set (map f l) i (f x)
   map-set [] i x = refl
   map-set (y ∷ l) zero x = refl
   map-set (y ∷ l) (suc i) x = ap (λ (r : List B). f y ∷ r) (map-set l i x)
@@ -114,11 +114,19 @@ resized-known : (r : List ℕ) (n : ℕ) → length r ≡ recordBytes → attrib
 unfolding knownOf
 resized-known r n l c = rw (known-kept r n l, fields-kept r n l, c)
 
-one-way : (v : Bool) (g : Access) (l l′ new new′ : List (List ℕ)) → map knownOf l ≡ map knownOf l′ → map knownOf new ≡ map knownOf new′
-    → map knownOf (ifGranted g (cond v new l) l) ≡ map knownOf (ifGranted g (cond v new′ l′) l′)
-one-way v (Denied c) l l′ new new′ old e = old
-one-way true Granted l l′ new new′ old e = e
-one-way false Granted l l′ new new′ old e = old
+-- both lists are written, or both stay
+one-way : (c c′ v v′ : Bool) (g g′ : Access) (l l′ new new′ : List (List ℕ)) → c ≡ c′ → v ≡ v′ → (c ≡ false → g ≡ g′) → map knownOf l ≡ map knownOf l′ → (c ≡ false → map knownOf new ≡ map knownOf new′)
+    → map knownOf (cond c l (ifGranted g (cond v new l) l)) ≡ map knownOf (cond c′ l′ (ifGranted g′ (cond v′ new′ l′) l′))
+one-way c c′ v v′ g g′ l l′ new new′ ec ev eg old e = rw (← ec, ← ev) (by c v eg e)
+  where
+    met : (v : Bool) (r : Access) → map knownOf new ≡ map knownOf new′ → map knownOf (ifGranted r (cond v new l) l) ≡ map knownOf (ifGranted r (cond v new′ l′) l′)
+    met v (Denied n) k = old
+    met true Granted k = k
+    met false Granted k = old
+
+    by : (c v : Bool) → (c ≡ false → g ≡ g′) → (c ≡ false → map knownOf new ≡ map knownOf new′) → map knownOf (cond c l (ifGranted g (cond v new l) l)) ≡ map knownOf (cond c l′ (ifGranted g′ (cond v new′ l′) l′))
+    by true v h k = old
+    by false v h k = rw (← h refl) (met v g (k refl))
 
 module _ (a b : State) (same : map knownOf (a .list) ≡ map knownOf (b .list)) (slot : Found) (i off : ℕ) (d : List ℕ)
     (size : length (getD (a .list) i []) ≡ recordBytes) (size′ : length (getD (b .list) i []) ≡ recordBytes) where
@@ -138,14 +146,10 @@ module _ (a b : State) (same : map knownOf (a .list) ≡ map knownOf (b .list)) 
       ∙ (λ j. record { entry = f .entry j; len = off + length d })
       ∙ sym (resized-known r′ (off + length d) size′ (sym (f .client) ∙ c)))
 
+  rule-same : attributeOf r .client ≡ false → writeRule (attributeOf r .len) (attributeOf r .cap) off (length d) ≡ writeRule (attributeOf r′ .len) (attributeOf r′ .cap) off (length d)
+  rule-same c = rw (lengths-same (a .list) (b .list) same i c, f .cap)
+
   pub put-known : map knownOf (putAt a slot i off d .list) ≡ map knownOf (putAt b slot i off d .list)
   unfolding putAt sharedList lengthPut
-  put-known = by (attributeOf r .client) refl
-    where
-      by : (c : Bool) → attributeOf r .client ≡ c
-          → map knownOf (cond (attributeOf r .client) (a .list) (ifGranted (writeRule (attributeOf r .len) (attributeOf r .cap) off (length d)) (cond (attributeOf r .variable) (set (a .list) i (withLength r (off + length d))) (a .list)) (a .list)))
-          ≡ map knownOf (cond (attributeOf r′ .client) (b .list) (ifGranted (writeRule (attributeOf r′ .len) (attributeOf r′ .cap) off (length d)) (cond (attributeOf r′ .variable) (set (b .list) i (withLength r′ (off + length d))) (b .list)) (b .list)))
-      by true c = rw (← f .client, c) same
-      by false c =
-          rw (← f .client, ← f .variable, ← f .cap, ← lengths-same (a .list) (b .list) same i c, c)
-          (one-way (attributeOf r .variable) (writeRule (attributeOf r .len) (attributeOf r .cap) off (length d)) (a .list) (b .list) _ _ same (resized-same c))
+  put-known =
+      one-way (attributeOf r .client) (attributeOf r′ .client) (attributeOf r .variable) (attributeOf r′ .variable) _ _ (a .list) (b .list) _ _ (f .client) (f .variable) rule-same same resized-same
