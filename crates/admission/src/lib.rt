@@ -22,6 +22,22 @@ pub enum Admission {
     No(Answer),
 }
 
+// By the three tests: whether the state is right, the buffer bad, the identity bad.
+fn lowest(right: bool, buffer: bool, peer: bool) -> Admission
+    ensures { λ r. ⌜ r ≡ admissionBy right buffer peer ⌝ }
+{
+    if !right {
+        return Admission::No(Answer::BadState);
+    }
+    if buffer {
+        return Admission::No(Answer::BadBuffer);
+    }
+    if peer {
+        return Admission::No(Answer::BadPeer);
+    }
+    Admission::Yes
+}
+
 // For a call of the application.
 pub fn admit(
     list: &[Record],
@@ -33,13 +49,8 @@ pub fn admit(
     ensures { λ r. let s = lent (now (list .entry)) (now (store .entry)) (now (row .entry)) (now (tables .entry)) in
         ⌜ r ≡ admissionBy (valid s) false (isBad who) ⌝ }
 {
-    if !state::is_valid(list, store, row, tables) {
-        return Admission::No(Answer::BadState);
-    }
-    if peers::who::is_bad(who) {
-        return Admission::No(Answer::BadPeer);
-    }
-    Admission::Yes
+    let right = state::is_valid(list, store, row, tables);
+    lowest(right, false, peers::who::is_bad(who))
 }
 
 // Whether a request brings more than its answer can repeat: a Prepare Write, in a buffer of at least 23 bytes.
@@ -99,14 +110,7 @@ pub fn admit_request(
     ensures { λ r. let s = lent (now (list .entry)) (now (store .entry)) (now (row .entry)) (now (tables .entry)) in
         ⌜ r ≡ admissionBy (validWith s p) (isBadBuffer rq n room) (isBad who) ⌝ }
 {
-    if !state::is_valid_with(list, store, row, tables, p) {
-        return Admission::No(Answer::BadState);
-    }
-    if is_bad_buffer(rq, n, room) {
-        return Admission::No(Answer::BadBuffer);
-    }
-    if peers::who::is_bad(who) {
-        return Admission::No(Answer::BadPeer);
-    }
-    Admission::Yes
+    let right = state::is_valid_with(list, store, row, tables, p);
+    let buffer = is_bad_buffer(rq, n, room);
+    lowest(right, buffer, peers::who::is_bad(who))
 }

@@ -1,15 +1,16 @@
 -- Laws of the rule for a write and of a shared value: each way by which the code answers, what a granted write has room
 -- for, and what stands after it. Assumes nothing.
-use mathlib.Core.Path.{_≡_, refl}
+use mathlib.Core.Path.{_≡_, refl, sym}
 use mathlib.Core.Bool.{Bool, true, false, cond}
 use mathlib.Core.List.{List, []}
-use Prim.Native.Nat.{ℕ, _+_, _≤_, _<_}
+use Prim.Native.Nat.{ℕ, _+_, _-_, _≤_, _<_}
 use native.Mathlib.Omega.{arith}
 use lib.ListN.{length, getD, set}
 use lib.Seq.{sets}
 use lib.Dec.{ltb}
-use borrow.Author.Tests.{lt-ltb, le-ltb, ltb-false}
+use borrow.Author.Tests.{lt-ltb, le-ltb, ltb-true, ltb-false}
 use Rattle.wire.specs.Size.{valueBytes}
+use Rattle.wire.proofs.Tests.{same-test}
 use Rattle.attribute.specs.Record.{attributeOf, withLength}
 use Rattle.attribute.specs.Rules.{listOk}
 use Rattle.attribute.specs.declared.Attribute.{Attribute}
@@ -19,19 +20,29 @@ use Rattle.attribute.proofs.Shape.{entry, shared}
 use Rattle.model.specs.Value.{writeRule}
 use Rattle.model.specs.Change.{lengthPut, sharedList, sharedStore}
 
+-- the end of a write against the capacity, with no sum: the offset lies past it, or too few bytes are left behind it
+module _ (cap off n : ℕ) where
+  pub starts-past : cap < off → true ≡ ltb cap (off + n)
+  starts-past h = sym (lt-ltb cap (off + n) (omega (arith, h)))
+
+  pub ends-past : off ≤ cap → ltb (cap - off) n ≡ ltb cap (off + n)
+  ends-past h =
+      same-test (ltb (cap - off) n) (ltb cap (off + n)) (λ e. lt-ltb cap (off + n) (omega (arith, h, ltb-true (cap - off) n e)))
+      (λ e. lt-ltb (cap - off) n (omega (arith, h, ltb-true cap (off + n) e)))
+
 -- the rule, in the order of its tests
 module _ (len cap off n : ℕ) where
   pub bad-offset : len < off → Denied 0x07 ≡ writeRule len cap off n
   unfolding writeRule
   bad-offset h = rw (lt-ltb _ _ h)
 
-  pub bad-length : off ≤ len → cap < off + n → Denied 0x0D ≡ writeRule len cap off n
+  pub bad-length : off ≤ len → ltb cap (off + n) ≡ true → Denied 0x0D ≡ writeRule len cap off n
   unfolding writeRule
-  bad-length h k = rw (le-ltb _ _ h, lt-ltb _ _ k)
+  bad-length h k = rw (le-ltb _ _ h, k)
 
-  pub goes-in : off ≤ len → off + n ≤ cap → Granted ≡ writeRule len cap off n
+  pub goes-in : off ≤ len → ltb cap (off + n) ≡ false → Granted ≡ writeRule len cap off n
   unfolding writeRule
-  goes-in h k = rw (le-ltb _ _ h, le-ltb _ _ k)
+  goes-in h k = rw (le-ltb _ _ h, k)
 
 -- and back: a write that is granted has room
 passed : (t : Bool) (c : ℕ) (b : Access) → cond t (Denied c) b ≡ Granted → (t ≡ false) × (b ≡ Granted)

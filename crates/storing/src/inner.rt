@@ -3,8 +3,9 @@
 ghost use mathlib.Core.Path.{_≡_};
 ghost use mathlib.Core.Bool.{true, false};
 ghost use mathlib.Core.List.{[]};
-ghost use Prim.Native.Nat.{_^_, _<_};
+ghost use Prim.Native.Nat.{_+_, _^_, _<_};
 ghost use lib.ListN.{length, getD};
+ghost use lib.Dec.{ltb};
 ghost use Rattle.attribute.specs.Record.{attributeOf};
 ghost use Rattle.attribute.specs.Rules.{listOk};
 ghost use Rattle.state.specs.State.{Becomes};
@@ -20,15 +21,26 @@ use wire::Found;
 use wire::sizes::Record;
 use wire::sizes::Table;
 
-// Whether n bytes go in at an offset of a value of `len` bytes that can hold `cap`.
+// Whether n bytes from an offset on end past a capacity.
+fn is_past(cap: u16, offset: usize, n: usize) -> bool
+    ensures { λ r. ⌜ r ≡ ltb cap (offset + n) ⌝ }
+{
+    if (cap as usize) < offset {
+        return true;
+    }
+    cap as usize - offset < n
+}
+
+// Whether n bytes go in at an offset of a value of `len` bytes that can hold `cap`: the offset comes first.
 fn rule(len: u16, cap: u16, offset: usize, n: usize) -> Access
     requires { ⌜ n < 2 ^ 63 ⌝ }
     ensures { λ r. ⌜ r ≡ writeRule len cap offset n ⌝ }
 {
+    let past = is_past(cap, offset, n);
     if (len as usize) < offset {
         return Access::Denied(0x07);
     }
-    if (cap as usize) < offset + n {
+    if past {
         return Access::Denied(0x0D);
     }
     Access::Granted
