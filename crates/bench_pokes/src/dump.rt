@@ -46,7 +46,7 @@ fn wide(n: u8) -> u16 {
 fn slot(i: u16, s: &SlotBytes, table: &Table) {
     say::say(b"slot ");
     field(i);
-    table_printer::print_hex(parts::front(s, 7));
+    say::hex(parts::front(s, 7));
     say::say(b" ");
     say::number(wide(s[7]));
     say::bytes(b" ", parts::trimmed(table));

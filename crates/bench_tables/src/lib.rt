@@ -5,6 +5,7 @@ use lines::parts;
 use lines::say;
 use lines::words;
 use table_builder::Pushed;
+use table_printer::TEXT_SIZE;
 use table_view::Key;
 use table_view::Outcome;
 use wire::sizes::TABLE_SIZE;
@@ -94,6 +95,12 @@ fn set_values(line: &[u8], table: &mut Table) {
     tell(client_att_table::set_values(table, parts::front(&d, n)));
 }
 
+fn print(raw: &[u8]) {
+    let mut text = [0u8; TEXT_SIZE];
+    let n = table_printer::write_lines(raw, &mut text);
+    say::say(parts::front(&text, n));
+}
+
 // A saved table of its own: its bytes, or its lines.
 fn saved(line: &[u8], lines: bool) {
     let mut d = [0u8; 4100];
@@ -102,7 +109,7 @@ fn saved(line: &[u8], lines: bool) {
         return say::no_call();
     }
     if lines {
-        table_printer::print_table(parts::front(&d, n));
+        print(parts::front(&d, n));
     } else {
         reply::tell_table(parts::front(&d, n));
     }

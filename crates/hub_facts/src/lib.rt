@@ -194,7 +194,7 @@ fn say_slots(row: &mut [SlotBytes; 8], tables: &mut [Table; 8]) {
 fn say_third(row: &[SlotBytes; 8]) {
     say(b", the third slot is tablet ");
     let third = row[2];
-    table_printer::print_hex(&[third[1]]);
+    lines::say::hex(&[third[1]]);
     line();
 }
 

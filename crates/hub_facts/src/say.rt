@@ -27,12 +27,12 @@ pub fn refused(n: u64) {
 
 pub fn att(code: u8) {
     say(b"att ");
-    table_printer::print_hex(&[code]);
+    lines::say::hex(&[code]);
 }
 
 // The first n bytes.
 fn say_front(out: &[u8], n: usize) {
-    table_printer::print_hex(table_view::part(out, Span { from: 0, to: n }));
+    lines::say::hex(table_view::part(out, Span { from: 0, to: n }));
 }
 
 // An answer of the server: a value or a response is what stands in the buffer.

@@ -1,5 +1,9 @@
-// Answers on standard output. Bytes are printed by the table printer's `print_hex`.
+// Answers on standard output.
 use libc::STDOUT_FILENO;
+use wire::least;
+use wire::sizes::VALUE_SIZE;
+ghost use Prim.Native.Nat.{_≤_};
+ghost use lib.ListN.{length};
 
 pub fn say(s: &[u8]) {
     io::write_all(STDOUT_FILENO, s);
@@ -11,10 +15,33 @@ pub fn line(s: &[u8]) {
     say(b"\n");
 }
 
+// A few bytes as hex pairs.
+fn pairs(d: &[u8])
+    requires { ⌜ length (now d) ≤ 256 ⌝ }
+{
+    let mut line = [0u8; VALUE_SIZE];
+    text::inner::hex(&mut line, 0, d);
+    let n = 2 * d.len();
+    say(&line[..n]);
+}
+
+// Bytes as hex pairs, `-` where there are none.
+pub fn hex(d: &[u8]) {
+    if d.len() == 0 {
+        say(b"-");
+    }
+    let mut i = 0;
+    while i < d.len() {
+        let e = least(i + 256, d.len());
+        pairs(&d[i..e]);
+        i = e;
+    }
+}
+
 // A word, then bytes, as a line.
 pub fn bytes(name: &[u8], d: &[u8]) {
     say(name);
-    table_printer::print_hex(d);
+    hex(d);
     say(b"\n");
 }
 
@@ -34,7 +61,7 @@ fn zeros(d: &[u8; 4]) -> usize {
 pub fn number(n: u16) {
     let pair = [(n / 256) as u8, (n % 256) as u8];
     let mut d = [0u8; 4];
-    text::inner::hex(&pair, &mut d);
+    text::inner::hex(&mut d, 0, &pair);
     let from = zeros(&d);
     if from <= 4 {
         say(&d[from..4]);

@@ -1,0 +1,4 @@
+pub mod Size
+pub mod Putting
+pub mod Unique
+pub mod Document

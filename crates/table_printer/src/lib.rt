@@ -1,77 +1,106 @@
-// A saved table as lines of text on standard output (document 01, "Worked facts").
-use libc::STDOUT_FILENO;
+// A saved table as lines of text in a lent buffer (document 01, end of "Worked facts").
 use table_view::Place;
 use table_view::inner;
-use wire::least;
-use wire::sizes::VALUE_SIZE;
+use text::inner::bytes;
+use text::inner::decimal;
+use text::inner::hex;
 ghost use mathlib.Core.Path.{_≡_};
 ghost use mathlib.Core.Bool.{true};
 ghost use Prim.Native.Nat.{_≤_, _<_};
 ghost use lib.ListN.{length};
+ghost use Rattle.text.specs.Put.{Put, Short};
 ghost use Rattle.table_view.specs.Layout.{countOf};
 ghost use Rattle.table_view.specs.Rules.{accepts};
+ghost use Rattle.table_view.specs.View.{itemAt, view};
+ghost use Rattle.table_printer.specs.Lines.{kindText, valueText, lineOf, entryLine, heading as headingOf, allLines};
+ghost use Rattle.table_printer.specs.Printed.{Printed};
 
-fn print(s: &[u8]) {
-    io::write_all(STDOUT_FILENO, s);
-}
+// The longest input that is read, and what is enough for the text of any input.
+pub const INPUT_SIZE: usize = 65536;
 
-// A few bytes as hex pairs.
-fn print_pairs(d: &[u8])
-    requires { ⌜ length (now d) ≤ 256 ⌝ }
+pub const TEXT_SIZE: usize = 262144;
+
+// Whether an entry is variable or fixed.
+fn kind(out: &mut [u8], at: usize, variable: bool) -> usize
+    requires { ⌜ Short at (kindText variable) ⌝ }
+    ensures { λ r. ⌜ Put (now (out .entry)) (now (out .exit)) at r (kindText variable) ⌝ }
 {
-    let mut line = [0u8; VALUE_SIZE];
-    text::inner::hex(d, &mut line);
-    let n = 2 * d.len();
-    print(&line[..n]);
+    if variable {
+        return bytes(out, at, b" V ");
+    }
+    bytes(out, at, b" F ")
 }
 
-// Bytes as hex pairs, `-` where there are none.
-pub fn print_hex(d: &[u8]) {
-    if d.len() == 0 {
-        print(b"-");
+// A value in hex, `-` where it is empty.
+fn value(out: &mut [u8], at: usize, v: &[u8]) -> usize
+    requires { ⌜ Short at (valueText (now v)) ⌝ }
+    ensures { λ r. ⌜ Put (now (out .entry)) (now (out .exit)) at r (valueText (now (v .entry))) ⌝ }
+{
+    if v.len() == 0 {
+        return bytes(out, at, b"-");
     }
-    let mut i = 0;
-    while i < d.len() {
-        let e = least(i + 256, d.len());
-        print_pairs(&d[i..e]);
-        i = e;
-    }
+    hex(out, at, v)
 }
 
-// An entry: its handle, whether it is fixed or variable, its length, its value.
-fn print_entry(t: &[u8], p: Place)
+// A line: a handle, whether it is fixed or variable, the value's length, the value.
+fn line(out: &mut [u8], at: usize, key: usize, variable: bool, v: &[u8]) -> usize
+    requires { ⌜ Short at (lineOf key variable (now v)) ⌝ }
+    ensures { λ r. ⌜ Put (now (out .entry)) (now (out .exit)) at r (lineOf key variable (now (v .entry))) ⌝ }
+{
+    let form = decimal(out, at, key);
+    let len = kind(out, form, variable);
+    let space = decimal(out, len, v.len());
+    let hex = bytes(out, space, b" ");
+    let end = value(out, hex, v);
+    bytes(out, end, b"\n")
+}
+
+// The line of an entry.
+fn entry(out: &mut [u8], at: usize, t: &[u8], p: Place) -> usize
     requires { ⌜ (accepts (now t) ≡ true) × (p .0 < countOf (now t)) ⌝ }
+    requires { ⌜ Short at (entryLine (itemAt (now t) (p .0))) ⌝ }
+    ensures { λ r. ⌜ Put (now (out .entry)) (now (out .exit)) at r (entryLine (itemAt (now (t .entry)) (p .0))) ⌝ }
 {
-    io::print_decimal(STDOUT_FILENO, inner::key_at(t, p).0 as u64);
-    if inner::is_variable(t, p) {
-        print(b" V ");
-    } else {
-        print(b" F ");
-    }
-    let v = inner::value(t, p);
-    io::print_decimal(STDOUT_FILENO, v.len() as u64);
-    print(b" ");
-    print_hex(v);
-    print(b"\n");
+    let key = inner::key_at(t, p).0 as usize;
+    let variable = inner::is_variable(t, p);
+    line(out, at, key, variable, inner::value(t, p))
 }
 
-// The table's lines, or what is wrong with it.
-pub fn print_table(raw: &[u8]) {
-    if 65536 < raw.len() {
-        print(b"too long\n");
-        return;
-    }
-    if !inner::is_table(raw) {
-        print(b"refused 4\n");
-        return;
-    }
-    let n = inner::count(raw);
-    print(b"entries ");
-    io::print_decimal(STDOUT_FILENO, n as u64);
-    print(b"\n");
+// The first line.
+fn heading(out: &mut [u8], n: usize) -> usize
+    requires { ⌜ Short 0 (headingOf n) ⌝ }
+    ensures { λ r. ⌜ Put (now (out .entry)) (now (out .exit)) 0 r (headingOf n) ⌝ }
+{
+    let word = bytes(out, 0, b"entries ");
+    let end = decimal(out, word, n);
+    bytes(out, end, b"\n")
+}
+
+// All lines of a table.
+fn lines(out: &mut [u8], t: &[u8]) -> usize
+    requires { ⌜ (accepts (now t) ≡ true) × (length (now t) ≤ 65536) ⌝ }
+    ensures { λ r. ⌜ Put (now (out .entry)) (now (out .exit)) 0 r (allLines (view (now (t .entry)))) ⌝ }
+{
+    let n = inner::count(t);
+    let mut next = heading(out, n);
     let mut i = 0;
     while i < n {
-        print_entry(raw, Place(i));
+        next = entry(out, next, t, Place(i));
         i += 1;
     }
+    next
+}
+
+// Writes the table's lines, or what is wrong with it, at the start of out, and answers how many bytes they have. Where
+// out has fewer, they are cut at its end.
+pub fn write_lines(raw: &[u8], out: &mut [u8]) -> usize
+    ensures { λ r. ⌜ Printed (now (raw .entry)) (now (out .entry)) (now (out .exit)) r ⌝ }
+{
+    if INPUT_SIZE < raw.len() {
+        return bytes(out, 0, b"too long\n");
+    }
+    if !inner::is_table(raw) {
+        return bytes(out, 0, b"refused 4\n");
+    }
+    lines(out, raw)
 }

@@ -1,2 +1,2 @@
-// Bytes as text.
+// Bytes and numbers as text.
 pub mod inner;

@@ -4,9 +4,11 @@ mod say;
 
 use hub_facts::say::line;
 use hub_facts::say::say;
+use lines::parts;
 use say::say_outcome;
 use say::say_pushed;
 use say::say_value;
+use table_printer::TEXT_SIZE;
 use table_view::Key;
 use wire::sizes::TABLE_SIZE;
 use wire::sizes::Table;
@@ -30,8 +32,10 @@ fn say_key(t: &Table, key: Key) {
     say_value(t, table_view::get(t, key));
 }
 
-fn print(t: &Table) {
-    table_printer::print_table(t);
+fn print(raw: &[u8]) {
+    let mut text = [0u8; TEXT_SIZE];
+    let n = table_printer::write_lines(raw, &mut text);
+    say(parts::front(&text, n));
 }
 
 // What a write of d to key 5 of a copy of the table answers, and what 5 reads then.
@@ -126,11 +130,11 @@ fn printer_facts() {
     client_att_table::clear(&mut t);
     print(&t);
     let short = [0u8; 3];
-    table_printer::print_table(&short);
+    print(&short);
     let longest = [0u8; 65536];
-    table_printer::print_table(&longest);
+    print(&longest);
     let longer = [0u8; 65537];
-    table_printer::print_table(&longer);
+    print(&longer);
 }
 
 fn main() {

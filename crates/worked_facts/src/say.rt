@@ -29,7 +29,7 @@ pub fn say_pushed(r: Pushed) {
 // The bytes that an answer names.
 pub fn say_value(b: &[u8], r: Got) {
     match r {
-        Got::Value(s) => table_printer::print_hex(table_view::part(b, s)),
+        Got::Value(s) => lines::say::hex(table_view::part(b, s)),
         Got::NotFound => none(),
         Got::Refused => refused(4),
     }
