@@ -15,6 +15,7 @@ use Rattle.attribute.specs.declared.Access.{Access}
 use Rattle.attribute.specs.declared.Access.the-variants.{Granted, Denied}
 use Rattle.attribute.specs.declared.Link.{Link}
 use Rattle.peers.specs.declared.Slot.{Slot}
+use Rattle.peers.specs.declared.Seated.{Seated}
 use Rattle.state.specs.State.{State, state}
 use Rattle.model.specs.View.{Pending}
 use Rattle.model.specs.Answer.{isDue}
@@ -28,7 +29,7 @@ use Rattle.model.specs.declared.Change.the-variants.{Write, WriteCommand
 pub listed : (list : List (List ℕ)) (h i : ℕ) → placeOf list h ≡ At i → i < length list
 listed list h i e = placed (hasHandle h) [] list 0 i e .inside
 
-module _ (link : Link) (list : List (List ℕ)) (store store′ : List ℕ) (row : List Slot) (ts ts′ : List (List ℕ)) (slot : Found) (R : State → State → Type 0) (old : R (state list store row ts) (state list store′ row ts′))
+module _ (link : Link) (list : List (List ℕ)) (store store′ : List ℕ) (row : List Slot) (ts ts′ : List (List ℕ)) (slot : Seated) (R : State → State → Type 0) (old : R (state list store row ts) (state list store′ row ts′))
     (put : (i : ℕ) → i < length list → mayWrite (attributeOf (getD list i [])) link ≡ Granted → (off : ℕ) (d : List ℕ) → R (putAt (state list store row ts) slot i off d) (putAt (state list store′ row ts′) slot i off d)) where
   abbrev a : State
   a = state list store row ts
@@ -67,7 +68,7 @@ module _ (link : Link) (list : List (List ℕ)) (store store′ : List ℕ) (row
   both-leave w request.Confirmation d = old
 
 -- of one hub
-pub request-leaves : (link : Link) (s : State) (slot : Found) (P : State → Type 0) → P s
+pub request-leaves : (link : Link) (s : State) (slot : Seated) (P : State → Type 0) → P s
     → ((i : ℕ) → i < length (s .list) → mayWrite (attributeOf (getD (s .list) i [])) link ≡ Granted → (off : ℕ) (d : List ℕ) → P (putAt s slot i off d))
     → (w : Pending) (rq : Request) (d : List ℕ) → P (stateBy link s slot w rq d)
 request-leaves link s slot P old put = both-leave link (s .list) (s .store) (s .store) (s .row) (s .tables) (s .tables) slot (λ x y. P x) old put
