@@ -9,13 +9,14 @@ use Rattle.wire.specs.declared.Found.{Found}
 use Rattle.wire.specs.declared.Found.the-variants.{At, Nothing}
 use Rattle.attribute.specs.Record.{attributeOf}
 use Rattle.attribute.specs.Lookup.{placeOf}
+use Rattle.peers.specs.declared.Seated.{Seated}
 use Rattle.peers.specs.declared.Slot.{Slot}
 use Rattle.state.specs.State.{State, state}
 use Rattle.model.specs.Change.{putAt}
 use Rattle.model.proofs.Leaving.{listed}
 use Rattle.application.specs.Calls.{isWrongLength, storeLeft}
 
-module _ (list : List (List ℕ)) (row : List Slot) (store store′ : List ℕ) (ts ts′ : List (List ℕ)) (slot : Found) (d : List ℕ) (R : State → State → Type 0)
+module _ (list : List (List ℕ)) (row : List Slot) (store store′ : List ℕ) (ts ts′ : List (List ℕ)) (slot : Seated) (d : List ℕ) (R : State → State → Type 0)
     (old : R (state list store row ts) (state list store′ row ts′))
     (put : (i : ℕ) → i < length list → R (putAt (state list store row ts) slot i 0 d) (putAt (state list store′ row ts′) slot i 0 d)) where
   abbrev a : State
@@ -36,5 +37,5 @@ module _ (list : List (List ℕ)) (row : List Slot) (store store′ : List ℕ) 
   both-leave h = at-place (placeOf list h) (listed list h)
 
 -- of one hub
-pub set-leaves : (s : State) (slot : Found) (d : List ℕ) (P : State → Type 0) → P s → ((i : ℕ) → i < length (s .list) → P (putAt s slot i 0 d)) → (h : ℕ) → P (storeLeft s slot (placeOf (s .list) h) d)
+pub set-leaves : (s : State) (slot : Seated) (d : List ℕ) (P : State → Type 0) → P s → ((i : ℕ) → i < length (s .list) → P (putAt s slot i 0 d)) → (h : ℕ) → P (storeLeft s slot (placeOf (s .list) h) d)
 set-leaves s slot d P old put = both-leave (s .list) (s .row) (s .store) (s .store) (s .tables) (s .tables) slot d (λ x y. P x) old put
