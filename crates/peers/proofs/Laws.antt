@@ -14,7 +14,7 @@ use Rattle.wire.specs.Walk.{placeFrom}
 use Rattle.wire.specs.declared.Found.{Found}
 use Rattle.wire.specs.declared.Found.the-variants as found
 use Rattle.wire.proofs.Tests.{both-false-l}
-use Rattle.wire.proofs.Walk.{Placed, placed, hit, miss, none-left}
+use Rattle.wire.proofs.Walk.{Placed, placed, none-passes, hit, miss, none-left}
 use Rattle.peers.specs.Identity.{sameId, isEmpty, isBad}
 use Rattle.peers.specs.Bytes.{slotIn, rowOf}
 use Rattle.peers.specs.Slots.{matches, wanted, seatedAt, walk, slotOf, soughtSeat, left, nobody, noSlot}
@@ -111,6 +111,11 @@ module _ (p : Slot → Bool) (es : List (List ℕ)) (i : ℕ) where
 module _ (row : List Slot) (who : Identity) (want : Want) where
   pub walk-placed : (k : Seat) → walk want row who ≡ At k → Placed (wanted want who) noSlot row 0 (k .0)
   walk-placed k h = placed (wanted want who) noSlot row 0 (k .0) (seat-place (placeFrom (wanted want who) row 0) k h)
+
+  -- and where it finds none, none is wanted
+  pub walk-none : walk want row who ≡ Nothing → (j : ℕ) → j < length row → wanted want who (getD row j noSlot) ≡ false
+  walk-none h j l =
+      none-passes (wanted want who) noSlot row (length row) 0 (omega arith) (no-seat (placeFrom (wanted want who) row 0) h) j (omega arith) l
 
   pub walk-inside : (k : Seat) → walk want row who ≡ At k → k .0 < length row
   walk-inside k h = walk-placed k h .inside
