@@ -12,6 +12,7 @@ use Rattle.attribute.specs.Record.{attributeOf}
 use Rattle.attribute.specs.Needs.{toldAccess}
 use Rattle.attribute.specs.declared.Attribute.{Attribute}
 use Rattle.attribute.specs.declared.Access.{Access}
+use Rattle.peers.specs.declared.Seated.{Seated}
 use Rattle.reading.specs.Copy.{copiedOf, copyOf}
 use Rattle.reading.specs.declared.Copied.{Copied}
 use Rattle.state.specs.State.{Becomes}
@@ -52,7 +53,7 @@ module _ (a b : Attribute) (is : a ≡ b) (n : ℕ) where
   own-length v = rw (← is, v)
 
 -- `set`
-module _ (list : List (List ℕ)) (store : List ℕ) (ts : List (List ℕ)) (slot : Found) (f : Found) (d : List ℕ) where
+module _ (list : List (List ℕ)) (store : List ℕ) (ts : List (List ℕ)) (slot : Seated) (f : Found) (d : List ℕ) where
   -- what is told and what stands afterwards, with this answer
   abbrev pub Set : Answer → List (List ℕ) → List ℕ → List (List ℕ) → Type 0
   Set r list′ store′ ts′ =

@@ -9,13 +9,14 @@ use Rattle.wire.specs.declared.Found.{Found}
 use Rattle.wire.specs.declared.Found.the-variants.{At, Nothing}
 use Rattle.attribute.specs.Record.{attributeOf}
 use Rattle.attribute.specs.Lookup.{placeOf}
+use Rattle.peers.specs.declared.Seated.{Seated}
 use Rattle.state.specs.State.{State}
 use Rattle.model.specs.Change.{putAt}
 use Rattle.model.proofs.Leaving.{listed}
 use Rattle.application.specs.Calls.{isWrongLength, storeLeft}
 
 -- two hubs in which handles lie at the same places, and lengths are wrong for the same
-module _ (a b : State) (slot : Found) (d : List ℕ) (R : State → State → Type 0) (old : R a b)
+module _ (a b : State) (slot : Seated) (d : List ℕ) (R : State → State → Type 0) (old : R a b)
     (places : (h : ℕ) → placeOf (a .list) h ≡ placeOf (b .list) h)
     (wrong : (i : ℕ) → isWrongLength (attributeOf (getD (a .list) i [])) (length d) ≡ isWrongLength (attributeOf (getD (b .list) i [])) (length d))
     (put : (i : ℕ) → i < length (a .list) → R (putAt a slot i 0 d) (putAt b slot i 0 d)) where
@@ -33,5 +34,5 @@ module _ (a b : State) (slot : Found) (d : List ℕ) (R : State → State → Ty
       (at-place (placeOf (a .list) h) (listed (a .list) h))
 
 -- of one hub
-pub set-leaves : (s : State) (slot : Found) (d : List ℕ) (P : State → Type 0) → P s → ((i : ℕ) → i < length (s .list) → P (putAt s slot i 0 d)) → (h : ℕ) → P (storeLeft s slot (placeOf (s .list) h) d)
+pub set-leaves : (s : State) (slot : Seated) (d : List ℕ) (P : State → Type 0) → P s → ((i : ℕ) → i < length (s .list) → P (putAt s slot i 0 d)) → (h : ℕ) → P (storeLeft s slot (placeOf (s .list) h) d)
 set-leaves s slot d P old put = both-leave s s slot d (λ x y. P x) old (λ h. refl) (λ i. refl) put

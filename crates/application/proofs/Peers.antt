@@ -11,8 +11,6 @@ use borrow.Author.Tests.{eq-eqb, ne-eqb}
 use Rattle.wire.specs.Size.{tableBytes}
 use Rattle.wire.specs.First.{first}
 use Rattle.wire.specs.Number.{word}
-use Rattle.wire.specs.declared.Found.{Found}
-use Rattle.wire.specs.declared.Found.the-variants.{At, Nothing}
 use Rattle.wire.proofs.Tests.{both-true}
 use Rattle.table_view.specs.Layout.{countOf, valueAt}
 use Rattle.table_view.specs.Rules.{accepts}
@@ -22,6 +20,9 @@ use Rattle.table_view.specs.declared.Place.{Place}
 use Rattle.table_view.specs.declared.Indexed.the-variants as kept
 use Rattle.table_view.proofs.Items.{first-place}
 use Rattle.client_att_table.specs.SetValues.{setAll, afterSet}
+use Rattle.peers.specs.declared.Seat.{Seat}
+use Rattle.peers.specs.declared.Seated.{Seated}
+use Rattle.peers.specs.declared.Seated.the-variants.{At, Nothing}
 use Rattle.model.specs.View.{tableAt}
 use Rattle.model.specs.Told.{toldAnswer, Answered}
 use Rattle.model.specs.declared.Answer.the-variants as answer
@@ -48,26 +49,26 @@ module _ (t : List ℕ) (h bit : ℕ) where
     unfolding hasBit
     two-bytes n = sym (by-value ∙ rw (eq-eqb _ _ n))
 
-module _ (ts : List (List ℕ)) (slot : Found) (h bit : ℕ) where
+module _ (ts : List (List ℕ)) (slot : Seated) (h bit : ℕ) where
   pub no-subscription : slot ≡ Nothing → false ≡ isSubscribed (tableAt ts slot) h bit
   unfolding isSubscribed first itemsFrom word
   no-subscription e = rw (← table-none ts slot e)
 
-  pub in-slot : (k : ℕ) → slot ≡ At k → isSubscribed (getD ts k []) h bit ≡ isSubscribed (tableAt ts slot) h bit
+  pub in-slot : (k : Seat) → slot ≡ At k → isSubscribed (getD ts (k .0) []) h bit ≡ isSubscribed (tableAt ts slot) h bit
   in-slot k e = rw (table-there ts slot k e)
 
 -- the table copied out
-module _ (ts : List (List ℕ)) (slot : Found) (old : List ℕ) where
+module _ (ts : List (List ℕ)) (slot : Seated) (old : List ℕ) where
   pub no-table : slot ≡ Nothing → Answered old old answer.Nothing (tableTold ts slot)
   no-table e = rw e (silent old)
 
-  pub table-copied : (k : ℕ) → slot ≡ At k → length (getD ts k []) ≡ tableBytes → length old ≡ tableBytes → (new : List ℕ) → new ≡ sets old 0 (getD ts k [])
+  pub table-copied : (k : Seat) → slot ≡ At k → length (getD ts (k .0) []) ≡ tableBytes → length old ≡ tableBytes → (new : List ℕ) → new ≡ sets old 0 (getD ts (k .0) [])
       → Answered old new (answer.Value tableBytes) (tableTold ts slot)
   table-copied k e n m new s =
-      rw e (answered old new tableBytes (getD ts k []) (record { size = sym n; fits = omega arith; bytes = s }))
+      rw e (answered old new tableBytes (getD ts (k .0) []) (record { size = sym n; fits = omega arith; bytes = s }))
 
 -- the saved values taken in
-module _ (ts : List (List ℕ)) (slot : Found) (saved : List ℕ) where
+module _ (ts : List (List ℕ)) (slot : Seated) (saved : List ℕ) where
   pub bad-table : accepts saved ≡ false → (toldAnswer [] answer.BadTable ≡ restoreTold saved) × (ts ≡ restored ts slot saved)
   unfolding restoreTold restored
   bad-table b = rw b (refl, refl)
@@ -77,7 +78,7 @@ module _ (ts : List (List ℕ)) (slot : Found) (saved : List ℕ) where
     unfolding restoreTold restored
     no-slot e = rw (ok, e) (refl, refl)
 
-    pub values-taken : (k : ℕ) → slot ≡ At k → accepts (getD ts k []) ≡ true → (t : List ℕ) → t ≡ setAll saved (countOf (getD ts k [])) 0 (getD ts k [])
-        → (toldAnswer [] answer.Done ≡ restoreTold saved) × (set ts k t ≡ restored ts slot saved)
+    pub values-taken : (k : Seat) → slot ≡ At k → accepts (getD ts (k .0) []) ≡ true → (t : List ℕ) → t ≡ setAll saved (countOf (getD ts (k .0) [])) 0 (getD ts (k .0) [])
+        → (toldAnswer [] answer.Done ≡ restoreTold saved) × (set ts (k .0) t ≡ restored ts slot saved)
     unfolding restoreTold restored afterSet
     values-taken k e a t is = rw (ok, e, both-true _ _ a ok, is) (refl, refl)

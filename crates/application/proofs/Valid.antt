@@ -5,8 +5,6 @@ use mathlib.Core.List.{List, []}
 use Prim.Native.Nat.{ℕ, _<_}
 use lib.ListN.{length, getD}
 use Rattle.wire.specs.Size.{recordBytes, slotCount, tableBytes}
-use Rattle.wire.specs.declared.Found.{Found}
-use Rattle.wire.specs.declared.Found.the-variants.{At, Nothing}
 use Rattle.table_view.specs.Rules.{accepts}
 use Rattle.client_att_table.specs.SetValues.{afterSet}
 use Rattle.client_att_table.specs.AsList.{setValues, bytesAfter}
@@ -16,6 +14,8 @@ use Rattle.attribute.specs.Lookup.{placeOf}
 use Rattle.peers.specs.Identity.{isBad}
 use Rattle.peers.specs.Slots.{slotOf}
 use Rattle.peers.specs.declared.Identity.{Identity}
+use Rattle.peers.specs.declared.Seated.{Seated}
+use Rattle.peers.specs.declared.Seated.the-variants.{At, Nothing}
 use Rattle.state.specs.State.{State, withTables}
 use Rattle.state.specs.Valid.{valid}
 use Rattle.storing.proofs.Valid.{put-valid, kept-valid}
@@ -36,9 +36,9 @@ unfolding bytesAfter
 values-kept saved t ok = call-kept t ok (setValues saved)
 
 module _ (s : State) (who : Identity) (v : valid s ≡ true) (good : isBad who ≡ false) (sized : (i : ℕ) → i < slotCount → length (getD (s .tables) i []) ≡ tableBytes) (saved : List ℕ) where
-  at-slot : (f : Found) → slotOf (s .row) who ≡ f → valid (withTables s (restoredAt (s .tables) f saved)) ≡ true
+  at-slot : (f : Seated) → slotOf (s .row) who ≡ f → valid (withTables s (restoredAt (s .tables) f saved)) ≡ true
   at-slot Nothing e = v
-  at-slot (At k) e = kept-valid s v who good sized k e _ (values-kept saved (getD (s .tables) k []))
+  at-slot (At k) e = kept-valid s v who good sized k e _ (values-kept saved (getD (s .tables) (k .0) []))
 
   pub restore-valid : valid (withTables s (restored (s .tables) (slotOf (s .row) who) saved)) ≡ true
   unfolding restored

@@ -14,6 +14,8 @@ use Rattle.client_att_table.specs.SetValues.{afterSet}
 use Rattle.attribute.specs.Record.{attributeOf}
 use Rattle.attribute.specs.Needs.{toldAccess}
 use Rattle.attribute.specs.declared.Attribute.{Attribute}
+use Rattle.peers.specs.declared.Seated.{Seated}
+use Rattle.peers.specs.declared.Seated.the-variants as seated
 use Rattle.state.specs.State.{State}
 use Rattle.reading.specs.declared.Copied.{Copied}
 use Rattle.reading.specs.declared.Copied.the-variants as copied
@@ -46,7 +48,7 @@ storeTold list store table (At i) n =
     let a = attributeOf (getD list i []) in
     cond (isWrongLength a n) (refused 9) (toldAccess (writeOf store table a 0 n))
 
-abbrev pub storeLeft : State → Found → Found → List ℕ → State
+abbrev pub storeLeft : State → Seated → Found → List ℕ → State
 storeLeft s slot Nothing d = s
 storeLeft s slot (At i) d = cond (isWrongLength (attributeOf (getD (s .list) i [])) (length d)) s (putAt s slot i 0 d)
 
@@ -58,18 +60,18 @@ unfoldable pub isSubscribed : List ℕ → ℕ → ℕ → Bool
 isSubscribed table h bit = first (isOf h) (λ (x : Item). hasBit bit (x .value)) false (view table)
 
 -- `get_client_att_table`: the table of the peer's slot, or none
-abbrev pub tableTold : List (List ℕ) → Found → Told
-tableTold ts Nothing = none
-tableTold ts (At k) = value (getD ts k [])
+abbrev pub tableTold : List (List ℕ) → Seated → Told
+tableTold ts seated.Nothing = none
+tableTold ts (seated.At k) = value (getD ts (k .0) [])
 
 -- `set_client_att_table`: refusal 4 for a table that the reading rules do not accept; its values go into the table of
 -- the peer's slot
 unfoldable pub restoreTold : List ℕ → Told
 restoreTold saved = cond (accepts saved) done (refused 4)
 
-abbrev pub restoredAt : List (List ℕ) → Found → List ℕ → List (List ℕ)
-restoredAt ts Nothing saved = ts
-restoredAt ts (At k) saved = set ts k (afterSet saved (getD ts k []))
+abbrev pub restoredAt : List (List ℕ) → Seated → List ℕ → List (List ℕ)
+restoredAt ts seated.Nothing saved = ts
+restoredAt ts (seated.At k) saved = set ts (k .0) (afterSet saved (getD ts (k .0) []))
 
-unfoldable pub restored : List (List ℕ) → Found → List ℕ → List (List ℕ)
+unfoldable pub restored : List (List ℕ) → Seated → List ℕ → List (List ℕ)
 restored ts slot saved = cond (accepts saved) (restoredAt ts slot saved) ts

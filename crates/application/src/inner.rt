@@ -16,6 +16,7 @@ ghost use Rattle.storing.specs.Ready.{SlotReady, ReadyToStore};
 ghost use Rattle.application.specs.Calls.{answerCopied, isWrongLength, fetchTold, storeTold, storeLeft, isSubscribed, tableTold, restoreTold, restored};
 use attribute::Access;
 use model::Answer;
+use peers::Seated;
 use reading::Copied;
 use table_view::Key;
 use wire::Found;
@@ -47,7 +48,7 @@ pub fn get(
     list: &[Record],
     store: &[u8],
     tables: &[Table],
-    slot: Found,
+    slot: Seated,
     handle: u16,
     out: &mut [u8],
 ) -> Answer
@@ -58,8 +59,11 @@ pub fn get(
         return Answer::NoHandle;
     };
     match slot {
-        Found::At(k) => copied(reading::inner::copy_value(list, store, &tables[k], i, out)),
-        Found::Nothing => copied(reading::inner::copy_value(list, store, &[0, 0, 0, 0], i, out)),
+        Seated::At(k) => {
+            let at = k.0;
+            copied(reading::inner::copy_value(list, store, &tables[at], i, out))
+        }
+        Seated::Nothing => copied(reading::inner::copy_value(list, store, &[0, 0, 0, 0], i, out)),
     }
 }
 
@@ -80,7 +84,7 @@ pub fn set(
     list: &mut [Record],
     store: &mut [u8],
     tables: &mut [Table],
-    slot: Found,
+    slot: Seated,
     handle: u16,
     d: &[u8],
 ) -> Answer
@@ -113,39 +117,42 @@ fn has_bit(table: &[u8], handle: u16, bit: u8) -> bool
 }
 
 // Whether a peer has subscribed to a value: bit 1 to notifications, bit 2 to indications.
-pub fn is_subscribed(tables: &[Table], slot: Found, handle: u16, bit: u8) -> bool
+pub fn is_subscribed(tables: &[Table], slot: Seated, handle: u16, bit: u8) -> bool
     requires { ⌜ SlotReady (now tables) slot × (0 < bit) ⌝ }
     ensures { λ r. ⌜ r ≡ isSubscribed (tableAt (now (tables .entry)) slot) handle bit ⌝ }
 {
-    let Found::At(k) = slot else {
+    let Seated::At(k) = slot else {
         return false;
     };
-    has_bit(&tables[k], handle, bit)
+    let at = k.0;
+    has_bit(&tables[at], handle, bit)
 }
 
 // Copies the peer's table out.
-pub fn get_client_att_table(tables: &[Table], slot: Found, out: &mut [u8]) -> Answer
+pub fn get_client_att_table(tables: &[Table], slot: Seated, out: &mut [u8]) -> Answer
     requires { ⌜ SlotReady (now tables) slot × (length (now out) ≡ tableBytes) ⌝ }
     ensures { λ r. ⌜ Answered (now (out .entry)) (now (out .exit)) r (tableTold (now (tables .entry)) slot) ⌝ }
 {
-    let Found::At(k) = slot else {
+    let Seated::At(k) = slot else {
         return Answer::Nothing;
     };
-    wire::inner::copy(out, 0, &tables[k]);
+    let at = k.0;
+    wire::inner::copy(out, 0, &tables[at]);
     Answer::Value(TABLE_SIZE)
 }
 
 // Puts the values of a saved table into the peer's; without a slot nothing changes.
-pub fn set_client_att_table(tables: &mut [Table], slot: Found, saved: &[u8]) -> Answer
+pub fn set_client_att_table(tables: &mut [Table], slot: Seated, saved: &[u8]) -> Answer
     requires { ⌜ SlotReady (now tables) slot ⌝ }
     ensures { λ r. ⌜ (toldAnswer [] r ≡ restoreTold (now (saved .entry))) × (now (tables .exit) ≡ restored (now (tables .entry)) slot (now (saved .entry))) ⌝ }
 {
     if !table_view::inner::is_table(saved) {
         return Answer::BadTable;
     }
-    let Found::At(k) = slot else {
+    let Seated::At(k) = slot else {
         return Answer::Done;
     };
-    client_att_table::inner::set_values(&mut tables[k], saved);
+    let at = k.0;
+    client_att_table::inner::set_values(&mut tables[at], saved);
     Answer::Done
 }

@@ -1,6 +1,6 @@
 -- Laws of `specs/Rules.antt`, `specs/Needs.antt` and `specs/Record.antt`: each way by which the code answers, and a
 -- turn of its loop. Assumes nothing.
-use mathlib.Core.Path.{_≡_, _∙_}
+use mathlib.Core.Path.{_≡_, refl, _∙_}
 use mathlib.Core.Bool.{true, false}
 use mathlib.Core.List.{List, []}
 use Prim.Native.Nat.{ℕ, _+_, _-_, _≤_, _<_, min}
@@ -15,10 +15,11 @@ use Rattle.wire.specs.Test.{both}
 use Rattle.table_view.proofs.Answers.{part-cut}
 use Rattle.attribute.specs.Record.{attributeOf, uuidOf}
 use Rattle.attribute.specs.Rules.{fieldsOk, rangeOk, entryOk, endAfter, entriesOk, listOk}
-use Rattle.attribute.specs.Needs.{levelOf, accessOf, mayDo, accessAt}
+use Rattle.attribute.specs.Needs.{toldAccess, levelOf, accessOf, mayDo, accessAt}
 use Rattle.attribute.specs.declared.Attribute.{Attribute}
 use Rattle.attribute.specs.declared.Link.{Link}
 use Rattle.attribute.specs.declared.Wish.{Wish}
+use Rattle.attribute.specs.declared.Access.{Access}
 use Rattle.attribute.specs.declared.Access.the-variants.{Granted, Denied}
 use Rattle.wire.specs.declared.Found.{Found}
 use Rattle.wire.specs.declared.Found.the-variants.{At, Nothing}
@@ -29,6 +30,13 @@ unfolding uuidOf
 uuid-part r to l e =
     let k : (12 + getD r 11 0) - 12 ≡ getD r 11 0 = omega arith in
     part-cut r 12 (12 + getD r 11 0) to (rw l e) (omega arith) ∙ rw k
+
+-- equal tellings are equal answers: of an access there is one
+pub one-access : (a b : Access) → toldAccess a ≡ toldAccess b → a ≡ b
+one-access Granted Granted e = refl
+one-access Granted (Denied c) e = let z : _≡_ {A = ℕ} 0 1 = cc in absurd (omega arith)
+one-access (Denied c) Granted e = let z : _≡_ {A = ℕ} 0 1 = cc in absurd (omega arith)
+one-access (Denied c) (Denied c′) e = cc
 
 -- a link and a need, in the code's order
 module _ (link : Link) (never need : ℕ) where

@@ -1,6 +1,6 @@
 // What a link may do with a value.
 ghost use mathlib.Core.Path.{_≡_};
-ghost use Rattle.attribute.specs.Needs.{accessOf, levelOf, mayRead, mayWrite, mayDo, canDo};
+ghost use Rattle.attribute.specs.Needs.{toldAccess, levelOf, accessTold, mayReadTold, mayWriteTold, mayDo, canDoTold};
 use crate::Access;
 use crate::Attribute;
 use crate::Link;
@@ -24,7 +24,7 @@ fn level(link: Link) -> u8
 
 // Whether a link meets a need; `never` is the code of need 0.
 pub fn access(link: Link, never: u8, need: u8) -> Access
-    ensures { λ r. ⌜ r ≡ accessOf link never need ⌝ }
+    ensures { λ r. ⌜ toldAccess r ≡ accessTold link never need ⌝ }
 {
     let most = level(link);
     if most == 0 {
@@ -44,13 +44,13 @@ pub fn access(link: Link, never: u8, need: u8) -> Access
 
 // Whether a link may read an entry, and write it.
 pub fn may_read(a: Attribute, link: Link) -> Access
-    ensures { λ r. ⌜ r ≡ mayRead a link ⌝ }
+    ensures { λ r. ⌜ toldAccess r ≡ mayReadTold a link ⌝ }
 {
     access(link, 0x02, a.reads)
 }
 
 pub fn may_write(a: Attribute, link: Link) -> Access
-    ensures { λ r. ⌜ r ≡ mayWrite a link ⌝ }
+    ensures { λ r. ⌜ toldAccess r ≡ mayWriteTold a link ⌝ }
 {
     access(link, 0x03, a.writes)
 }
@@ -67,7 +67,7 @@ fn may(a: Attribute, link: Link, wish: Wish) -> Access
 
 // The same by handle: 0x01 for one that is not listed.
 pub fn can(list: &[Record], link: Link, handle: u16, wish: Wish) -> Access
-    ensures { λ r. ⌜ r ≡ canDo wish (now (list .entry)) link handle ⌝ }
+    ensures { λ r. ⌜ toldAccess r ≡ canDoTold wish (now (list .entry)) link handle ⌝ }
 {
     let Found::At(i) = lookup::find_handle(list, handle) else {
         return Access::Denied(0x01);

@@ -6,10 +6,10 @@ use native.Mathlib.Omega.{arith}
 use lib.ListN.{length}
 use borrow.Author.Tests.{ltb-false}
 use Rattle.wire.proofs.Tests.{both-l, both-r}
-use Rattle.wire.specs.declared.Found.the-variants.{Nothing}
 use Rattle.peers.specs.Slots.{slotOf}
 use Rattle.peers.specs.declared.Identity.{Identity}
 use Rattle.peers.proofs.Laws.{slot-inside}
+use Rattle.peers.specs.declared.Seated.the-variants.{Nothing}
 use Rattle.state.specs.State.{State}
 use Rattle.state.specs.Valid.{valid, validWith, recordOk}
 use Rattle.state.specs.declared.Prepared.{Prepared}

@@ -7,12 +7,12 @@ use Prim.Native.Nat.{ℕ, _<_}
 use native.Mathlib.Nat.{le-of-eq}
 use native.Mathlib.Omega.{arith}
 use lib.ListN.{length}
-use Rattle.wire.specs.declared.Found.{Found}
-use Rattle.wire.specs.declared.Found.the-variants.{At, Nothing}
 use Rattle.peers.specs.Bytes.{rowOf}
 use Rattle.peers.specs.Slots.{walk, slotOf, Inside, joined, connecting, parted, leaving, rowMoved}
 use Rattle.peers.specs.declared.Identity.{Identity}
 use Rattle.peers.specs.declared.Slot.{Slot}
+use Rattle.peers.specs.declared.Seated.{Seated}
+use Rattle.peers.specs.declared.Seated.the-variants.{At, Nothing}
 use Rattle.peers.specs.declared.Want.the-variants.{Usable, Free}
 use Rattle.peers.specs.declared.Move.{Move}
 use Rattle.peers.proofs.Laws.{slot-inside}
@@ -27,19 +27,19 @@ use Rattle.admission.specs.declared.Admission.the-variants.{Yes, No}
 
 -- what the walks found
 module _ (row : List Slot) (who : Identity) where
-  pub join-is : (usable free : Found) (n : ℕ) → usable ≡ walk Usable row who → free ≡ walk Free row who → n ≡ length row → joined n who usable free ≡ connecting row who
+  pub join-is : (usable free : Seated) (n : ℕ) → usable ≡ walk Usable row who → free ≡ walk Free row who → n ≡ length row → joined n who usable free ≡ connecting row who
   unfolding connecting
   join-is usable free n u f e = rw (u, f, e)
 
-  pub part-is : (own : Found) (bonded : Bool) → own ≡ slotOf row who → parted row bonded own ≡ leaving row who bonded
+  pub part-is : (own : Seated) (bonded : Bool) → own ≡ slotOf row who → parted row bonded own ≡ leaving row who bonded
   unfolding leaving
   part-is own bonded e = rw e
 
-  found : (f : Found) → slotOf row who ≡ f → Inside f (length row)
-  found (At i) e = slot-inside row who i e
+  found : (f : Seated) → slotOf row who ≡ f → Inside f (length row)
+  found (At k) e = slot-inside row who k e
   found Nothing e = tt
 
-  pub found-inside : (own : Found) → own ≡ slotOf row who → Inside own (length row)
+  pub found-inside : (own : Seated) → own ≡ slotOf row who → Inside own (length row)
   found-inside own e = found own (sym e)
 
 -- what a move may clear, in a row lent in bytes

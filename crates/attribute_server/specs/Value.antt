@@ -3,7 +3,7 @@ use Prim.Native.Nat.{ℕ}
 use mathlib.Core.List.{List}
 use Rattle.table_view.specs.Told.{Told}
 use Rattle.attribute.specs.Lookup.{placeOf}
-use Rattle.attribute.specs.Needs.{toldAccess, canDo}
+use Rattle.attribute.specs.Needs.{canDoTold}
 use Rattle.attribute.specs.declared.Link.{Link}
 use Rattle.attribute.specs.declared.Wish.{Wish}
 use Rattle.peers.specs.Slots.{slotOf}
@@ -26,4 +26,4 @@ module _ (s : State) (who : Identity) where
   setLeft h d = leftIf (admission s who) s (storeLeft s (slotOf (s .row) who) (placeOf (s .list) h) d)
 
   abbrev pub canTold : Wish → Link → ℕ → Told
-  canTold wish link h = toldIf (admission s who) (toldAccess (canDo wish (s .list) link h))
+  canTold wish link h = toldIf (admission s who) (canDoTold wish (s .list) link h)

@@ -10,22 +10,22 @@ use admission::admit_request;
 use attribute::Link;
 use model::Request;
 use peers::Identity;
+use peers::Seated;
 use peers::Want;
 use preparing::Changed;
 use preparing::inner::with_record;
 use state::Prepared;
-use wire::Found;
 use wire::sizes::PreparedBytes;
 use wire::sizes::Record;
 use wire::sizes::SlotBytes;
 use wire::sizes::Table;
 
 // The peer's slot, where the request needs it: most that only discover do not.
-fn slot_for(row: &[SlotBytes], who: Identity, rq: Request) -> Found
+fn slot_for(row: &[SlotBytes], who: Identity, rq: Request) -> Seated
     ensures { λ r. ⌜ r ≡ givenSlot rq (slotOf (rowOf (now (row .entry))) who) ⌝ }
 {
     if !requests::inner::needs_slot(rq) {
-        return Found::Nothing;
+        return Seated::Nothing;
     }
     peers::inner::first(row, who, Want::Own)
 }

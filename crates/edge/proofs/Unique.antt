@@ -13,7 +13,7 @@ use Rattle.numbers.specs.declared.Reply.{Reply}
 use Rattle.numbers.proofs.Unique.{one-reply}
 use Rattle.edge.specs.Served.{Delivered, Served}
 
--- `can_read`, `can_write`, `should_notify`, `should_indicate`: the reply
+-- `can_read`, `can_write`, `should_notify`, `should_indicate`, `saved_length`: the reply
 pub one-looked : (t : Told) (r r′ : Reply) → r ≡ replyTo t → r′ ≡ replyTo t → r ≡ r′
 one-looked = one-reply
 

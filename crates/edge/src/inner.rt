@@ -12,8 +12,8 @@ use attribute_server::inner::Joining;
 use numbers::Reply;
 use numbers::answer;
 use peers::Identity;
+use peers::Seated;
 use peers::Slot;
-use wire::Found;
 use wire::sizes::Record;
 use wire::sizes::SLOTS;
 use wire::sizes::Table;
@@ -45,8 +45,8 @@ pub fn connect(
     row: [Slot; SLOTS],
     tables: &mut [Table],
     who: Identity,
-    usable: Found,
-    free: Found,
+    usable: Seated,
+    free: Seated,
 ) -> Joined
     requires { ⌜ (usable ≡ walk Usable row who) × (free ≡ walk Free row who) ⌝ }
     ensures { λ r. let s = state (now (list .entry)) (now (store .entry)) row (now (tables .entry)) in
@@ -66,7 +66,7 @@ pub fn disconnect(
     tables: &mut [Table],
     who: Identity,
     bonded: u8,
-    own: Found,
+    own: Seated,
 ) -> Joined
     requires { ⌜ own ≡ slotOf row who ⌝ }
     ensures { λ r. let s = state (now (list .entry)) (now (store .entry)) row (now (tables .entry)) in

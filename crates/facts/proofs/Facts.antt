@@ -18,7 +18,7 @@ use Rattle.attribute.specs.Lookup.{isWithin, isWanted}
 use Rattle.attribute.specs.Needs.{accessOf}
 use Rattle.attribute.specs.Rules.{fieldsOk, rangeOk, entryOk, endAfter, entriesOk, listOk}
 use Rattle.peers.specs.Identity.{sameId, isEmpty, isBad}
-use Rattle.peers.specs.Slots.{matches, wanted}
+use Rattle.peers.specs.Slots.{matches, wanted, seatedAt}
 use Rattle.state.specs.Fresh.{clientsOf, freshTable, spaceOf, entriesSize}
 use Rattle.state.specs.Valid.{laidOut, slotOk, slotsOk, valid, recordOk, validWith}
 use Rattle.wire.specs.Walk.{placeIn}
@@ -31,6 +31,6 @@ use Rattle.model.specs.Answer.{errorRsp, valueRsp, isBadRange, firstRsp, listFr
 use Rattle.facts.specs.Facts.{none, one, FactsHold}
 
 pub facts-hold : FactsHold
-unfolding both first afterAll zeros word nextAt headAt lenAt valueAt indexEntryOk indexOk valueOk valuesOk accepts placeFrom indexPlace itemAt itemsFrom readTold getTold planAt withLen laid writeTold afterWrite builder lastKey entryFits valueSize flagged pushPlan withEntry alike based wide sameUuid attributeOf uuidOf entryOf isWithin isWanted accessOf sharedItem atValue readOf seenBy readAt run fromFirst byTypeForm lead extraOf cut valueTurn rowTurn errorRsp valueRsp isBadRange firstRsp listFrom infoFrom askRsp requestTold fieldsOk rangeOk entryOk endAfter entriesOk listOk sameId isEmpty isBad matches wanted clientsOf freshTable spaceOf entriesSize laidOut slotOk slotsOk valid recordOk validWith placeIn admissionBy isBadBuffer tableAt
+unfolding both first afterAll zeros word nextAt headAt lenAt valueAt indexEntryOk indexOk valueOk valuesOk accepts placeFrom indexPlace itemAt itemsFrom readTold getTold planAt withLen laid writeTold afterWrite builder lastKey entryFits valueSize flagged pushPlan withEntry alike based wide sameUuid attributeOf uuidOf entryOf isWithin isWanted accessOf sharedItem atValue readOf seenBy readAt run fromFirst byTypeForm lead extraOf cut valueTurn rowTurn errorRsp valueRsp isBadRange firstRsp listFrom infoFrom askRsp requestTold fieldsOk rangeOk entryOk endAfter entriesOk listOk sameId isEmpty isBad matches wanted seatedAt clientsOf freshTable spaceOf entriesSize laidOut slotOk slotsOk valid recordOk validWith placeIn admissionBy isBadBuffer tableAt
 facts-hold =
     one refl (one refl (one refl (one refl (one refl (one refl (one refl (one refl (one refl (one refl (one refl (one refl (one refl (one refl (one refl (one refl none)))))))))))))))

@@ -25,14 +25,15 @@ use denote.Steps.{only}
 use denote.Struct.Laws as LL
 use denote.Enum.Laws as EL
 use denote.Triple.Statement.{Triple}
-use Rattle.wire.specs.declared.Found.{Found}
-use Rattle.wire.proofs.Found as F
-use Rattle.wire.proofs.Found.Laws as F′
-use Rattle.peers.specs.Slots.{walk}
+use Rattle.peers.specs.Slots.{walk, soughtSeat}
 use Rattle.peers.specs.declared.Slot.{Slot}
 use Rattle.peers.specs.declared.Identity.{Identity}
+use Rattle.peers.specs.declared.Seated.{Seated}
 use Rattle.peers.specs.declared.Want.{Want}
 use Rattle.peers.specs.declared.Want.the-variants.{Own, Usable, Free}
+use Rattle.peers.proofs.Laws.{one-seat}
+use Rattle.peers.proofs.Seated as F
+use Rattle.peers.proofs.Seated.Laws as F′
 use Rattle.peers.proofs.Slot as S
 use Rattle.peers.proofs.Identity as I
 use Rattle.peers.proofs.Identity.Laws as I′
@@ -55,13 +56,13 @@ module _ {M : Type 1} {𝓤 : URA M} {H : Heap 𝓤} {A : Atoms 𝓤} {K : Type 
   pub seeks : K → (mem : Memory → SProp 𝓤) (run : Routine → Fun 𝓤) → FmC 𝓤 H (W .laws) C → Triple 𝓤 (C #first) (Known 𝓤 H A seek.ended (seek.clauses 𝓤 H A mem run)) → (t : Share) (ys : List Slot) (b o : ℕ) → Room S.the-row (length ys)
       → (who : Identity) → Is I.the-row who (I′.lowered who ∷ []) → (want : Want) → Is N.the-row want (N′.lowered want ∷ [])
       → ((i j : Item 𝓤) → Opds K W (i ∷ j ∷ Γ) E xs (sliceVal (b, o) (length ys) ∷ I′.lowered who ∷ N′.lowered want ∷ []))
-      → ((r : Found) → r ≡ walk want ys who → Is F.the-row r (F′.lowered r ∷ []) → Seq K W (‵ (row S.the-row t ys b o) ∷ Γ) (lands C Λ E d (F′.lowered r) rest q))
+      → ((r : Seated) → r ≡ walk want ys who → Is F.the-row r (F′.lowered r ∷ []) → Seq K W (‵ (row S.the-row t ys b o) ∷ Γ) (lands C Λ E d (F′.lowered r) rest q))
       → Seq K W (‵ (row S.the-row t ys b o) ∷ Γ) (runs C Λ E (seq (call #first xs d) rest) q)
   seeks k mem run fm known t ys b o room who is-who want is-want os go =
       calls-lent k fm S.the-row (seek.clauses 𝓤 H A mem run) known t ys b o room (λ α. (who, (want, tt))) (λ α. (I′.lowered who ∷ [], (N′.lowered want ∷ [], tt))) (λ α γ. tt)
-      (λ α. (LL.makes I.the-type I′.the-plain 𝓤 H A, (EL.makes N.the-type N′.the-plain 𝓤 H A, tt))) (λ α. (is-who, (is-want, tt))) (λ α γ. id⊢ 𝓤 _) (λ α r. r ≡ walk want ys who) (λ α γ r ws. id⊢ 𝓤 _)
+      (λ α. (LL.makes I.the-type I′.the-plain 𝓤 H A, (EL.makes N.the-type N′.the-plain 𝓤 H A, tt))) (λ α. (is-who, (is-want, tt))) (λ α γ. id⊢ 𝓤 _) (λ α r. soughtSeat r ≡ soughtSeat (walk want ys who)) (λ α γ r ws. id⊢ 𝓤 _)
       (λ i j α. os i j) (λ v α r e is. subst (λ (u : Val). Seq K W (‵ (row S.the-row t ys b o) ∷ Γ) (lands C Λ E d u rest q)) (sym (ap only (F′.lowers .val-is r _ is)))
-      (go r e (lowered-is F.the-row F′.lowered (F′.lowers .val-is) r _ is)))
+      (go r (one-seat r (walk want ys who) e) (lowered-is F.the-row F′.lowered (F′.lowers .val-is) r _ is)))
 
   pub gathers : K → (mem : Memory → SProp 𝓤) (run : Routine → Fun 𝓤) → FmC 𝓤 H (W .laws) C → Triple 𝓤 (C #load) (Known 𝓤 H A gather.ended (gather.clauses 𝓤 H A mem run)) → (t : Share) (ys : List Slot) (b o : ℕ) → Room S.the-row (length ys) → length ys ≡ 8
       → ((i j : Item 𝓤) → Opds K W (i ∷ j ∷ Γ) E xs (sliceVal (b, o) (length ys) ∷ []))

@@ -3,22 +3,23 @@
 pub mod inner;
 
 ghost use mathlib.Core.Path.{_≡_};
-ghost use Rattle.peers.specs.Slots.{walk};
+ghost use Rattle.peers.specs.Slots.{soughtSeat, slotSought};
 use peers::Identity;
+use peers::Seat;
+use peers::Seated;
 use peers::Slot;
 use peers::Want;
-use wire::Found;
 
 // The first slot that is wanted.
-pub fn first(slots: &[Slot], who: Identity, want: Want) -> Found
-    ensures { λ r. ⌜ r ≡ walk want (now (slots .entry)) who ⌝ }
+pub fn first(slots: &[Slot], who: Identity, want: Want) -> Seated
+    ensures { λ r. ⌜ soughtSeat r ≡ slotSought want (now (slots .entry)) who ⌝ }
 {
     let mut i = 0;
     while i < slots.len() {
         if peers::one::is_wanted(slots[i], who, want) {
-            return Found::At(i);
+            return Seated::At(Seat(i));
         }
         i += 1;
     }
-    Found::Nothing
+    Seated::Nothing
 }

@@ -14,6 +14,7 @@ use Rattle.attribute.specs.Needs.{mayWrite}
 use Rattle.attribute.specs.declared.Access.{Access}
 use Rattle.attribute.specs.declared.Access.the-variants.{Granted, Denied}
 use Rattle.attribute.specs.declared.Link.{Link}
+use Rattle.peers.specs.declared.Seated.{Seated}
 use Rattle.state.specs.State.{State}
 use Rattle.model.specs.View.{Pending}
 use Rattle.model.specs.Answer.{isDue}
@@ -28,7 +29,7 @@ pub listed : (list : List (List ℕ)) (h i : ℕ) → placeOf list h ≡ At i �
 listed list h i e = placed (hasHandle h) [] list 0 i e .inside
 
 -- two hubs in which handles lie at the same places, under the same needs for writing
-module _ (link : Link) (a b : State) (slot : Found) (R : State → State → Type 0) (old : R a b)
+module _ (link : Link) (a b : State) (slot : Seated) (R : State → State → Type 0) (old : R a b)
     (places : (h : ℕ) → placeOf (a .list) h ≡ placeOf (b .list) h)
     (needs : (i : ℕ) → mayWrite (attributeOf (getD (a .list) i [])) link ≡ mayWrite (attributeOf (getD (b .list) i [])) link)
     (put : (i : ℕ) → i < length (a .list) → mayWrite (attributeOf (getD (a .list) i [])) link ≡ Granted → (off : ℕ) (d : List ℕ) → R (putAt a slot i off d) (putAt b slot i off d)) where
@@ -65,7 +66,7 @@ module _ (link : Link) (a b : State) (slot : Found) (R : State → State → Typ
   both-leave w request.Confirmation d = old
 
 -- of one hub
-pub request-leaves : (link : Link) (s : State) (slot : Found) (P : State → Type 0) → P s
+pub request-leaves : (link : Link) (s : State) (slot : Seated) (P : State → Type 0) → P s
     → ((i : ℕ) → i < length (s .list) → mayWrite (attributeOf (getD (s .list) i [])) link ≡ Granted → (off : ℕ) (d : List ℕ) → P (putAt s slot i off d))
     → (w : Pending) (rq : Request) (d : List ℕ) → P (stateBy link s slot w rq d)
 request-leaves link s slot P old put = both-leave link s s slot (λ x y. P x) old (λ h. refl) (λ i. refl) put

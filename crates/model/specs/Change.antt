@@ -15,6 +15,8 @@ use Rattle.attribute.specs.Needs.{mayWrite}
 use Rattle.attribute.specs.declared.Attribute.{Attribute}
 use Rattle.attribute.specs.declared.Link.{Link}
 use Rattle.attribute.specs.declared.Access.{Access}
+use Rattle.peers.specs.declared.Seated.{Seated}
+use Rattle.peers.specs.declared.Seated.the-variants as seated
 use Rattle.state.specs.State.{State}
 use Rattle.state.specs.declared.Prepared.{Prepared}
 use Rattle.model.specs.Value.{writeRule}
@@ -40,12 +42,12 @@ unfoldable pub sharedStore : List ℕ → Attribute → ℕ → List ℕ → Lis
 sharedStore store a off d = ifGranted (writeRule (a .len) (a .cap) off (length d)) (sets store (a .start + off) d) store
 
 -- d at an offset of a client value, in the table of the peer's slot
-unfoldable pub ownTables : List (List ℕ) → Found → ℕ → ℕ → List ℕ → List (List ℕ)
-ownTables ts Nothing h off d = ts
-ownTables ts (At k) h off d = set ts k (afterWrite (getD ts k []) h off d)
+unfoldable pub ownTables : List (List ℕ) → Seated → ℕ → ℕ → List ℕ → List (List ℕ)
+ownTables ts seated.Nothing h off d = ts
+ownTables ts (seated.At k) h off d = set ts (k .0) (afterWrite (getD ts (k .0) []) h off d)
 
 -- d at an offset of the value of the entry at place i
-unfoldable pub putAt : State → Found → ℕ → ℕ → List ℕ → State
+unfoldable pub putAt : State → Seated → ℕ → ℕ → List ℕ → State
 putAt s slot i off d =
     let a = attributeOf (getD (s .list) i []) in
     record {
@@ -56,15 +58,15 @@ putAt s slot i off d =
     }
 
 -- the same behind the permission test, by handle
-abbrev pub writtenAt : Link → State → Found → Found → ℕ → List ℕ → State
+abbrev pub writtenAt : Link → State → Seated → Found → ℕ → List ℕ → State
 writtenAt link s slot Nothing off d = s
 writtenAt link s slot (At i) off d = ifGranted (mayWrite (attributeOf (getD (s .list) i [])) link) (putAt s slot i off d) s
 
-abbrev pub written : Link → State → Found → ℕ → ℕ → List ℕ → State
+abbrev pub written : Link → State → Seated → ℕ → ℕ → List ℕ → State
 written link s slot h off d = writtenAt link s slot (placeOf (s .list) h) off d
 
 -- the state after a request that may change something: w is what is pending, d what the request brings
-unfoldable pub stateAfter : Link → State → Found → Pending → Change → List ℕ → State
+unfoldable pub stateAfter : Link → State → Seated → Pending → Change → List ℕ → State
 stateAfter link s slot w (Write h) d = written link s slot h 0 d
 stateAfter link s slot w (WriteCommand h) d = written link s slot h 0 d
 stateAfter link s slot w (PrepareWrite h off) d = s
@@ -95,7 +97,7 @@ dataAfter p bytes (PrepareWrite h off) d = ifGranted (mayPrepare p h off (length
 dataAfter p bytes (ExecuteWrite flags) d = bytes
 
 -- the same of any request: only those that may change something do
-unfoldable pub stateBy : Link → State → Found → Pending → Request → List ℕ → State
+unfoldable pub stateBy : Link → State → Seated → Pending → Request → List ℕ → State
 stateBy link s slot w (request.Ask a) d = s
 stateBy link s slot w (request.FindByTypeValue g uuid) d = s
 stateBy link s slot w (request.Change c) d = stateAfter link s slot w c d

@@ -6,14 +6,14 @@ use mathlib.Core.List.{List, [], _∷_, map}
 use lib.Dec.{eqb}
 use lib.ListN.{take, getD}
 use Rattle.wire.specs.First.{first}
-use Rattle.wire.specs.declared.Found.{Found}
-use Rattle.wire.specs.declared.Found.the-variants.{At, Nothing}
 use Rattle.attribute.specs.Record.{Entry, entryOf, attributeOf}
 use Rattle.attribute.specs.Needs.{mayRead, mayWrite}
 use Rattle.attribute.specs.declared.Link.{Link}
 use Rattle.attribute.specs.declared.Access.{Access}
 use Rattle.attribute.specs.declared.Access.the-variants.{Granted, Denied}
 use Rattle.peers.specs.Slots.{slotOf}
+use Rattle.peers.specs.declared.Seated.{Seated}
+use Rattle.peers.specs.declared.Seated.the-variants.{At, Nothing}
 use Rattle.peers.specs.declared.Identity.{Identity}
 use Rattle.peers.specs.declared.Slot.{Slot}
 use Rattle.state.specs.declared.Prepared.{Prepared}
@@ -52,8 +52,8 @@ abbrev pub seenAll : Link → List (List ℕ) → List ℕ → List ℕ → List
 seenAll link list store table = map (seenBy link store table) list
 
 -- the peer's own table: that of its slot; a peer without one has the table that has no entries
-unfoldable pub tableAt : List (List ℕ) → Found → List ℕ
-tableAt ts (At i) = getD ts i []
+unfoldable pub tableAt : List (List ℕ) → Seated → List ℕ
+tableAt ts (At k) = getD ts (k .0) []
 tableAt ts Nothing = 0 ∷ 0 ∷ 0 ∷ 0 ∷ []
 
 abbrev pub ownTable : List Slot → List (List ℕ) → Identity → List ℕ

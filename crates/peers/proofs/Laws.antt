@@ -11,14 +11,18 @@ use borrow.Author.Tests.{eq-eqb, ne-eqb}
 use Rattle.wire.specs.Test.{both}
 use Rattle.wire.specs.Bytes.{zeros}
 use Rattle.wire.specs.Walk.{placeFrom}
-use Rattle.wire.specs.declared.Found.the-variants.{At, Nothing}
+use Rattle.wire.specs.declared.Found.{Found}
+use Rattle.wire.specs.declared.Found.the-variants as found
 use Rattle.wire.proofs.Tests.{both-false-l}
-use Rattle.wire.proofs.Walk.{placed, hit, miss, none-left}
+use Rattle.wire.proofs.Walk.{Placed, placed, none-passes, hit, miss, none-left}
 use Rattle.peers.specs.Identity.{sameId, isEmpty, isBad}
 use Rattle.peers.specs.Bytes.{slotIn, rowOf}
-use Rattle.peers.specs.Slots.{matches, wanted, walk, slotOf, left, nobody, noSlot}
+use Rattle.peers.specs.Slots.{matches, wanted, seatedAt, walk, slotOf, soughtSeat, left, nobody, noSlot}
 use Rattle.peers.specs.declared.Identity.{Identity}
 use Rattle.peers.specs.declared.Slot.{Slot}
+use Rattle.peers.specs.declared.Seat.{Seat}
+use Rattle.peers.specs.declared.Seated.{Seated}
+use Rattle.peers.specs.declared.Seated.the-variants.{At, Nothing}
 use Rattle.peers.specs.declared.Want.{Want}
 use Rattle.peers.specs.declared.Want.the-variants.{Own, Usable, Free}
 
@@ -65,27 +69,66 @@ pub left-unbonded : (s : Slot) (bonded : Bool) → bonded ≡ false → record {
 unfolding left
 left-unbonded s bonded h = rw h
 
--- a turn of the walk over a row in bytes, and its end: the test is of the slot that the bytes are
+-- a slot found is the place that the plain walk found; and none is none
+seat-place : (f : Found) (k : Seat) → seatedAt f ≡ At k → f ≡ found.At (k .0)
+unfolding seatedAt
+seat-place (found.At i) k e = cc
+seat-place found.Nothing k e = let z : _≡_ {A = ℕ} 0 1 = cc in absurd (omega arith)
+
+no-seat : (f : Found) → seatedAt f ≡ Nothing → f ≡ found.Nothing
+unfolding seatedAt
+no-seat (found.At i) e = let z : _≡_ {A = ℕ} 0 1 = cc in absurd (omega arith)
+no-seat found.Nothing e = refl
+
+-- a turn of the walk over a row, and its end
+module _ (p : Slot → Bool) (row : List Slot) (i : ℕ) (d : Slot) where
+  pub seat-hit : i < length row → p (getD row i d) ≡ true → seatedAt (placeFrom p row i) ≡ At (record { 0 = i })
+  unfolding seatedAt
+  seat-hit l h = ap seatedAt (hit p d row i l h)
+
+  pub seat-miss : i < length row → p (getD row i d) ≡ false → seatedAt (placeFrom p row i) ≡ seatedAt (placeFrom p row (i + 1))
+  seat-miss l h = ap seatedAt (miss p d row i l h)
+
+  pub seat-end : length row ≤ i → seatedAt (placeFrom p row i) ≡ Nothing
+  unfolding seatedAt
+  seat-end l = ap seatedAt (none-left p d row i l)
+
+-- the same over a row in bytes: the test is of the slot that the bytes are
 module _ (p : Slot → Bool) (es : List (List ℕ)) (i : ℕ) where
   tested : {s : Slot} {t u : Bool} → s ≡ slotIn (getD es i []) → t ≡ p s → t ≡ u → p (getD (rowOf es) i (slotIn [])) ≡ u
   tested e f h = ap p (List·getD-map slotIn es i [] ∙ sym e) ∙ sym f ∙ h
 
-  pub row-hit : {s : Slot} {t : Bool} → i < length es → s ≡ slotIn (getD es i []) → t ≡ p s → t ≡ true → placeFrom p (rowOf es) i ≡ At i
-  row-hit l e f h = hit p (slotIn []) (rowOf es) i (omega (arith, length-map es slotIn)) (tested e f h)
+  pub row-hit : {s : Slot} {t : Bool} → i < length es → s ≡ slotIn (getD es i []) → t ≡ p s → t ≡ true → seatedAt (placeFrom p (rowOf es) i) ≡ At (record { 0 = i })
+  row-hit l e f h = seat-hit p (rowOf es) i (slotIn []) (omega (arith, length-map es slotIn)) (tested e f h)
 
-  pub row-miss : {s : Slot} {t : Bool} → i < length es → s ≡ slotIn (getD es i []) → t ≡ p s → t ≡ false → placeFrom p (rowOf es) i ≡ placeFrom p (rowOf es) (i + 1)
-  row-miss l e f h = miss p (slotIn []) (rowOf es) i (omega (arith, length-map es slotIn)) (tested e f h)
+  pub row-miss : {s : Slot} {t : Bool} → i < length es → s ≡ slotIn (getD es i []) → t ≡ p s → t ≡ false → seatedAt (placeFrom p (rowOf es) i) ≡ seatedAt (placeFrom p (rowOf es) (i + 1))
+  row-miss l e f h = seat-miss p (rowOf es) i (slotIn []) (omega (arith, length-map es slotIn)) (tested e f h)
 
-  pub row-end : length es ≤ i → placeFrom p (rowOf es) i ≡ Nothing
-  row-end l = none-left p (slotIn []) (rowOf es) i (omega (arith, length-map es slotIn))
+  pub row-end : length es ≤ i → seatedAt (placeFrom p (rowOf es) i) ≡ Nothing
+  row-end l = seat-end p (rowOf es) i (slotIn []) (omega (arith, length-map es slotIn))
 
--- where a walk stops
+-- where a walk stops: at a slot of the row, the first that is wanted
 module _ (row : List Slot) (who : Identity) (want : Want) where
-  pub walk-inside : (i : ℕ) → walk want row who ≡ At i → i < length row
-  walk-inside i h = placed (wanted want who) noSlot row 0 i h .inside
+  pub walk-placed : (k : Seat) → walk want row who ≡ At k → Placed (wanted want who) noSlot row 0 (k .0)
+  walk-placed k h = placed (wanted want who) noSlot row 0 (k .0) (seat-place (placeFrom (wanted want who) row 0) k h)
 
-pub slot-inside : (row : List Slot) (who : Identity) (i : ℕ) → slotOf row who ≡ At i → i < length row
-slot-inside row who i h = walk-inside row who Own i h
+  -- and where it finds none, none is wanted
+  pub walk-none : walk want row who ≡ Nothing → (j : ℕ) → j < length row → wanted want who (getD row j noSlot) ≡ false
+  walk-none h j l =
+      none-passes (wanted want who) noSlot row (length row) 0 (omega arith) (no-seat (placeFrom (wanted want who) row 0) h) j (omega arith) l
+
+  pub walk-inside : (k : Seat) → walk want row who ≡ At k → k .0 < length row
+  walk-inside k h = walk-placed k h .inside
+
+pub slot-inside : (row : List Slot) (who : Identity) (k : Seat) → slotOf row who ≡ At k → k .0 < length row
+slot-inside row who k h = walk-inside row who Own k h
+
+-- equal tellings are equal answers: of a walk there is one
+pub one-seat : (a b : Seated) → soughtSeat a ≡ soughtSeat b → a ≡ b
+one-seat (At k) (At l) e = let s : k .0 ≡ l .0 = cc in λ i. At (record { 0 = s i })
+one-seat (At k) Nothing e = let z : _≡_ {A = ℕ} 0 1 = cc in absurd (omega arith)
+one-seat Nothing (At l) e = let z : _≡_ {A = ℕ} 0 1 = cc in absurd (omega arith)
+one-seat Nothing Nothing e = refl
 
 -- the tests, as what they say
 module _ (who : Identity) (s : Slot) where

@@ -7,14 +7,16 @@ use mathlib.Core.List.{List, [], _∷_}
 use lib.ListN.{length, getD, set}
 use lib.Dec.{eqb}
 use Rattle.wire.specs.Size.{slotCount}
-use Rattle.wire.specs.Walk.{placeFrom}
+use Rattle.wire.specs.Walk.{placeFrom, Sought, place, noPlace}
 use Rattle.wire.specs.declared.Found.{Found}
-use Rattle.wire.specs.declared.Found.the-variants.{At, Nothing}
+use Rattle.wire.specs.declared.Found.the-variants as found
 use Rattle.table_view.specs.Rules.{accepts}
 use Rattle.client_att_table.specs.Clear.{cleared}
 use Rattle.peers.specs.Identity.{sameId, isEmpty}
 use Rattle.peers.specs.declared.Identity.{Identity}
 use Rattle.peers.specs.declared.Slot.{Slot}
+use Rattle.peers.specs.declared.Seated.{Seated}
+use Rattle.peers.specs.declared.Seated.the-variants.{At, Nothing}
 use Rattle.peers.specs.declared.Want.{Want}
 use Rattle.peers.specs.declared.Want.the-variants.{Own, Usable, Free}
 use Rattle.peers.specs.declared.Move.{Move}
@@ -29,17 +31,30 @@ wanted Own who s = matches who s
 wanted Usable who s = cond (matches who s) true (isEmpty (s .id))
 wanted Free who s = eqb (s .connected) 0
 
+-- a place that the plain walk finds in the row is a slot's
+unfoldable pub seatedAt : Found → Seated
+seatedAt (found.At i) = At (record { 0 = i })
+seatedAt found.Nothing = Nothing
+
 -- the first slot that is wanted
-abbrev pub walk : Want → List Slot → Identity → Found
-walk want row who = placeFrom (wanted want who) row 0
+abbrev pub walk : Want → List Slot → Identity → Seated
+walk want row who = seatedAt (placeFrom (wanted want who) row 0)
 
 -- reads and writes use the first matching slot, connected or not
-abbrev pub slotOf : List Slot → Identity → Found
+abbrev pub slotOf : List Slot → Identity → Seated
 slotOf row who = walk Own row who
 
--- a place that was found lies in a row of n
-abbrev pub Inside : Found → ℕ → Type 0
-Inside (At i) n = i < n
+-- the place that a walk over the row tells
+abbrev pub soughtSeat : Seated → Sought
+soughtSeat (At k) = place (k .0)
+soughtSeat Nothing = noPlace
+
+abbrev pub slotSought : Want → List Slot → Identity → Sought
+slotSought want row who = soughtSeat (walk want row who)
+
+-- a slot that was found lies in a row of n
+abbrev pub Inside : Seated → ℕ → Type 0
+Inside (At k) n = k .0 < n
 Inside Nothing n = Unit {0}
 
 -- the slot with its new owner
@@ -48,9 +63,9 @@ taken who = record { id = who; connected = 1 }
 
 -- connecting: the first slot that matches or is empty is taken as it is; else the first not connected is cleared and
 -- taken; else there is none
-abbrev pub joined : ℕ → Identity → Found → Found → Move
-joined n who (At i) free = record { place = i; slot = taken who; clears = false; full = false }
-joined n who Nothing (At i) = record { place = i; slot = taken who; clears = true; full = false }
+abbrev pub joined : ℕ → Identity → Seated → Seated → Move
+joined n who (At k) free = record { place = k .0; slot = taken who; clears = false; full = false }
+joined n who Nothing (At k) = record { place = k .0; slot = taken who; clears = true; full = false }
 joined n who Nothing Nothing = record { place = n; slot = taken who; clears = false; full = true }
 
 unfoldable pub connecting : List Slot → Identity → Move
@@ -68,8 +83,8 @@ left bonded s = cond bonded (record { id = s .id; connected = 0 }) (record { id 
 abbrev pub noSlot : Slot
 noSlot = record { id = record { kind = 0; addr = [] }; connected = 0 }
 
-abbrev pub parted : List Slot → Bool → Found → Move
-parted row bonded (At i) = record { place = i; slot = left bonded (getD row i noSlot); clears = not bonded; full = false }
+abbrev pub parted : List Slot → Bool → Seated → Move
+parted row bonded (At k) = record { place = k .0; slot = left bonded (getD row (k .0) noSlot); clears = not bonded; full = false }
 parted row bonded Nothing = record { place = length row; slot = record { id = nobody; connected = 0 }; clears = false; full = false }
 
 unfoldable pub leaving : List Slot → Identity → Bool → Move

@@ -8,37 +8,39 @@ ghost use Rattle.peers.specs.Bytes.{rowOf};
 ghost use Rattle.peers.specs.Slots.{walk, Inside, joined, parted, rowMoved, tablesMoved, Tables};
 use crate::Identity;
 use crate::Move;
+use crate::Seat;
+use crate::Seated;
 use crate::Slot;
 use crate::Want;
 use crate::one;
-use wire::Found;
 use wire::sizes::SlotBytes;
 use wire::sizes::Table;
 
 // The first slot that is wanted.
-pub fn first(row: &[SlotBytes], who: Identity, want: Want) -> Found
+pub fn first(row: &[SlotBytes], who: Identity, want: Want) -> Seated
     ensures { λ r. ⌜ r ≡ walk want (rowOf (now (row .entry))) who ⌝ }
 {
     let mut i = 0;
     while i < row.len() {
         let s = one::decode(&row[i]);
         if one::is_wanted(s, who, want) {
-            return Found::At(i);
+            return Seated::At(Seat(i));
         }
         i += 1;
     }
-    Found::Nothing
+    Seated::Nothing
 }
 
 // Connecting, by what the two walks found in a row of n slots.
-pub fn join(usable: Found, free: Found, n: usize, who: Identity) -> Move
+pub fn join(usable: Seated, free: Seated, n: usize, who: Identity) -> Move
     ensures { λ r. ⌜ r ≡ joined n who usable free ⌝ }
 {
     let slot = Slot {
         id: who,
         connected: 1,
     };
-    if let Found::At(place) = usable {
+    if let Seated::At(k) = usable {
+        let place = k.0;
         return Move {
             place,
             slot,
@@ -46,7 +48,7 @@ pub fn join(usable: Found, free: Found, n: usize, who: Identity) -> Move
             full: false,
         };
     }
-    let Found::At(place) = free else {
+    let Seated::At(k) = free else {
         return Move {
             place: n,
             slot,
@@ -54,6 +56,7 @@ pub fn join(usable: Found, free: Found, n: usize, who: Identity) -> Move
             full: true,
         };
     };
+    let place = k.0;
     Move {
         place,
         slot,
@@ -63,11 +66,11 @@ pub fn join(usable: Found, free: Found, n: usize, who: Identity) -> Move
 }
 
 // Leaving, by the slot that the walk found.
-pub fn part(row: &[SlotBytes], own: Found, bonded: bool) -> Move
+pub fn part(row: &[SlotBytes], own: Seated, bonded: bool) -> Move
     requires { ⌜ Inside own (length (now row)) ⌝ }
     ensures { λ r. ⌜ r ≡ parted (rowOf (now (row .entry))) bonded own ⌝ }
 {
-    let Found::At(place) = own else {
+    let Seated::At(k) = own else {
         let addr = [0u8; 6];
         let nobody = Identity { kind: 0, addr };
         let none = Slot {
@@ -81,6 +84,7 @@ pub fn part(row: &[SlotBytes], own: Found, bonded: bool) -> Move
             full: false,
         };
     };
+    let place = k.0;
     let s = one::decode(&row[place]);
     Move {
         place,

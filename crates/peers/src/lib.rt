@@ -17,6 +17,15 @@ pub struct Slot {
     pub connected: u8,
 }
 
+// A slot of the row, by its place there: no place of a list or of an index is one.
+pub struct Seat(pub usize);
+
+// What a walk over the row answers: the first slot that is wanted, or that there is none.
+pub enum Seated {
+    At(Seat),
+    Nothing,
+}
+
 // What a walk over the row wants: the peer's own slot; its own or an empty one; one that is not connected.
 pub enum Want {
     Own,

@@ -3,11 +3,11 @@ use mathlib.Core.Path.{_≡_, refl, sym, ap, _∙_}
 use mathlib.Core.Bool.{true, false}
 use mathlib.Core.List.{List}
 use Prim.Native.Nat.{ℕ}
-use Rattle.wire.specs.declared.Found.{Found}
-use Rattle.wire.specs.declared.Found.the-variants.{Nothing}
 use Rattle.table_view.specs.Told.{value}
 use Rattle.attribute.specs.Record.{Entry}
 use Rattle.attribute.specs.declared.Link.{Link}
+use Rattle.peers.specs.declared.Seated.{Seated}
+use Rattle.peers.specs.declared.Seated.the-variants.{Nothing}
 use Rattle.state.specs.State.{State}
 use Rattle.model.specs.View.{Pending, seenAll, tableAt, viewOf}
 use Rattle.model.specs.Rows.{entriesIn}
@@ -20,7 +20,7 @@ use Rattle.model.specs.declared.Request.the-variants as request
 use Rattle.requests.specs.Slot.{needsSlot, givenSlot}
 use Rattle.requests.proofs.Asking.{entries-seen}
 
-module _ (link : Link) (list : List (List ℕ)) (store : List ℕ) (ts : List (List ℕ)) (w : Pending) (room : ℕ) (d : List ℕ) (slot : Found) where
+module _ (link : Link) (list : List (List ℕ)) (store : List ℕ) (ts : List (List ℕ)) (w : Pending) (room : ℕ) (d : List ℕ) (slot : Seated) where
   information : (t u : List ℕ) → entriesIn (seenAll link list store t) ≡ entriesIn (seenAll link list store u)
   information t u = entries-seen link list store t ∙ sym (entries-seen link list store u)
 
@@ -40,7 +40,7 @@ module _ (link : Link) (list : List (List ℕ)) (store : List ℕ) (ts : List (L
   told-given (request.ExchangeMtu mtu) = refl
   told-given request.Confirmation = refl
 
-pub lent-given : (link : Link) (s : State) (w : Pending) (d : List ℕ) (slot : Found) (rq : Request) → stateBy link s (givenSlot rq slot) w rq d ≡ stateBy link s slot w rq d
+pub lent-given : (link : Link) (s : State) (w : Pending) (d : List ℕ) (slot : Seated) (rq : Request) → stateBy link s (givenSlot rq slot) w rq d ≡ stateBy link s slot w rq d
 unfolding stateBy stateAfter givenSlot
 lent-given link s w d slot (request.Ask a) = refl
 lent-given link s w d slot (request.FindByTypeValue g uuid) = refl
@@ -52,7 +52,7 @@ lent-given link s w d slot (request.ExchangeMtu mtu) = refl
 lent-given link s w d slot request.Confirmation = refl
 
 -- the two slots
-module _ (rq : Request) (slot : Found) where
+module _ (rq : Request) (slot : Seated) where
   pub no-slot : needsSlot rq ≡ false → Nothing ≡ givenSlot rq slot
   unfolding givenSlot
   no-slot h = rw h refl

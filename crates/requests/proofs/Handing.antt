@@ -3,9 +3,9 @@ use mathlib.Core.Path.{_≡_, refl}
 use mathlib.Core.List.{List}
 use Prim.Native.Nat.{ℕ}
 use lib.ListN.{length}
-use Rattle.wire.specs.declared.Found.{Found}
 use Rattle.table_view.specs.Told.{Told, none, value}
 use Rattle.attribute.specs.declared.Link.{Link}
+use Rattle.peers.specs.declared.Seated.{Seated}
 use Rattle.state.specs.State.{Becomes}
 use Rattle.state.specs.declared.Prepared.{Prepared}
 use Rattle.model.specs.View.{View}
@@ -17,14 +17,14 @@ use Rattle.model.specs.declared.Range.{Range}
 use Rattle.model.specs.declared.Request.{Request}
 use Rattle.model.specs.declared.Request.the-variants as request
 
-pub record Hands (link : Link) (list : List (List ℕ)) (store : List ℕ) (ts : List (List ℕ)) (slot : Found) (v : View) (p : Prepared) (bytes d : List ℕ) (room : ℕ) (rq : Request)
+pub record Hands (link : Link) (list : List (List ℕ)) (store : List ℕ) (ts : List (List ℕ)) (slot : Seated) (v : View) (p : Prepared) (bytes d : List ℕ) (room : ℕ) (rq : Request)
     (list′ : List (List ℕ)) (store′ : List ℕ) (ts′ : List (List ℕ)) (q : Prepared) (new : List ℕ) (t : Told) : Type 0 where
   pub record-is : q ≡ recordBy p rq (length d)
   pub bytes-are : new ≡ dataBy p bytes rq d
   pub state-is : Becomes (λ s. stateBy link s slot (v .pending) rq d) list store ts list′ store′ ts′
   pub tells : t ≡ requestTold v list store room rq d
 
-module _ (link : Link) (list : List (List ℕ)) (store : List ℕ) (ts : List (List ℕ)) (slot : Found) (v : View) (p : Prepared) (bytes d : List ℕ) (room : ℕ) (rq : Request) where
+module _ (link : Link) (list : List (List ℕ)) (store : List ℕ) (ts : List (List ℕ)) (slot : Seated) (v : View) (p : Prepared) (bytes d : List ℕ) (room : ℕ) (rq : Request) where
   pub ask-leaves : (a : Ask) → rq ≡ request.Ask a → Hands link list store ts slot v p bytes d room rq list store ts p bytes (value (askRsp (v .attrs) room a d))
   unfolding stateBy recordBy dataBy requestTold
   ask-leaves a e = rw e (record { record-is = refl; bytes-are = refl; state-is = λ row. refl; tells = refl })

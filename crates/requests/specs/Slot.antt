@@ -1,7 +1,7 @@
 -- Which requests look at the asking peer's own values, and so need its slot. Assumes nothing.
 use mathlib.Core.Bool.{Bool, true, false, cond}
-use Rattle.wire.specs.declared.Found.{Found}
-use Rattle.wire.specs.declared.Found.the-variants.{Nothing}
+use Rattle.peers.specs.declared.Seated.{Seated}
+use Rattle.peers.specs.declared.Seated.the-variants.{Nothing}
 use Rattle.model.specs.declared.Ask.the-variants.{FindInformation, ReadByType, ReadByGroupType, Read, ReadBlob, ReadMultiple}
 use Rattle.model.specs.declared.Change.the-variants.{Write, WriteCommand, PrepareWrite, ExecuteWrite}
 use Rattle.model.specs.declared.Request.{Request}
@@ -25,5 +25,5 @@ needsSlot (request.ExchangeMtu mtu) = false
 needsSlot request.Confirmation = false
 
 -- the slot that it is given: none, where it needs none
-unfoldable pub givenSlot : Request → Found → Found
+unfoldable pub givenSlot : Request → Seated → Seated
 givenSlot rq slot = cond (needsSlot rq) slot Nothing

@@ -19,10 +19,10 @@ use model::Answer;
 use model::Ask;
 use model::Change;
 use model::Request;
+use peers::Seated;
 use preparing::Changed;
 use preparing::inner::with_record;
 use state::Prepared;
-use wire::Found;
 use wire::sizes::Record;
 use wire::sizes::Table;
 use writing::inner::change;
@@ -79,7 +79,7 @@ fn ask_from(
     list: &[Record],
     store: &[u8],
     tables: &[Table],
-    slot: Found,
+    slot: Seated,
     link: Link,
     rq: Ask,
     d: &[u8],
@@ -89,8 +89,11 @@ fn ask_from(
     ensures { λ r. ⌜ Sent (now (out .entry)) (now (out .exit)) r (askRsp (seenAll link (now (list .entry)) (now (store .entry)) (tableAt (now (tables .entry)) slot)) (length (now (out .entry))) rq (now (d .entry))) ⌝ }
 {
     match slot {
-        Found::At(k) => ask(list, store, &tables[k], link, rq, d, out),
-        Found::Nothing => ask(list, store, &[0, 0, 0, 0], link, rq, d, out),
+        Seated::At(k) => {
+            let at = k.0;
+            ask(list, store, &tables[at], link, rq, d, out)
+        }
+        Seated::Nothing => ask(list, store, &[0, 0, 0, 0], link, rq, d, out),
     }
 }
 
@@ -131,7 +134,7 @@ pub fn answer(
     list: &mut [Record],
     store: &mut [u8],
     tables: &mut [Table],
-    slot: Found,
+    slot: Seated,
     link: Link,
     p: Prepared,
     bytes: &mut [u8],

@@ -6,6 +6,7 @@ use mathlib.Core.List.{List}
 use Prim.Native.Nat.{ℕ}
 use lib.ListN.{length}
 use Rattle.table_view.specs.Told.{Told}
+use Rattle.table_view.specs.Read.{rawTold}
 use Rattle.attribute.specs.declared.Link.{Link}
 use Rattle.attribute.specs.declared.Wish.{Wish}
 use Rattle.peers.specs.declared.Identity.{Identity}
@@ -99,3 +100,7 @@ module _ (s : State) (r r′ : Reply) where
     -- `ropethatch_should_notify`, `ropethatch_should_indicate`
     pub one-subscribed : (bit : ℕ) → r ≡ replyTo (subscribedTold s who h bit) → r′ ≡ replyTo (subscribedTold s who h bit) → r ≡ r′
     one-subscribed bit = one-reply (subscribedTold s who h bit) r r′
+
+-- `ropethatch_saved_length`
+pub one-saved : (saved : List ℕ) (r r′ : Reply) → r ≡ replyTo (rawTold saved) → r′ ≡ replyTo (rawTold saved) → r ≡ r′
+one-saved saved = one-reply (rawTold saved)

@@ -8,13 +8,13 @@ use lib.Dec.{eqb}
 use lib.ListN.{length, getD, set, length-map, List·getD-map}
 use Rattle.wire.specs.Size.{recordBytes}
 use Rattle.wire.specs.Walk.{placeIn}
-use Rattle.wire.specs.declared.Found.{Found}
 use Rattle.table_builder.specs.AsList.{Push}
 use Rattle.attribute.specs.Record.{Entry, entryOf, attributeOf, withLength}
 use Rattle.attribute.specs.Lookup.{placeOf, hasHandle}
 use Rattle.attribute.specs.declared.Access.{Access}
 use Rattle.attribute.specs.declared.Access.the-variants.{Granted, Denied}
 use Rattle.attribute.proofs.Kept.{fields-kept, known-kept}
+use Rattle.peers.specs.declared.Seated.{Seated}
 use Rattle.state.specs.State.{State}
 use Rattle.state.specs.Fresh.{clientsOf, freshTable}
 use Rattle.model.specs.Value.{writeRule}
@@ -128,7 +128,7 @@ one-way c c′ v v′ g g′ l l′ new new′ ec ev eg old e = rw (← ec, ← 
     by true v h k = old
     by false v h k = rw (← h refl) (met v g (k refl))
 
-module _ (a b : State) (same : map knownOf (a .list) ≡ map knownOf (b .list)) (slot : Found) (i off : ℕ) (d : List ℕ)
+module _ (a b : State) (same : map knownOf (a .list) ≡ map knownOf (b .list)) (slot : Seated) (i off : ℕ) (d : List ℕ)
     (size : length (getD (a .list) i []) ≡ recordBytes) (size′ : length (getD (b .list) i []) ≡ recordBytes) where
   abbrev r : List ℕ
   r = getD (a .list) i []

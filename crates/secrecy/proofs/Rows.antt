@@ -6,11 +6,11 @@ use mathlib.Core.List.{List, map}
 use Prim.Native.Nat.{ℕ}
 use lib.Dec.{eqb}
 use lib.ListN.{length, getD}
-use Rattle.wire.specs.declared.Found.{Found}
-use Rattle.wire.specs.declared.Found.the-variants.{At, Nothing}
 use Rattle.peers.specs.Identity.{sameId, isEmpty}
-use Rattle.peers.specs.Slots.{matches, wanted, walk, slotOf, joined, connecting, left, parted, leaving, rowMoved, noSlot}
+use Rattle.peers.specs.Slots.{matches, wanted, walk, seatedAt, slotOf, joined, connecting, left, parted, leaving, rowMoved, noSlot}
 use Rattle.peers.specs.declared.Identity.{Identity}
+use Rattle.peers.specs.declared.Seated.{Seated}
+use Rattle.peers.specs.declared.Seated.the-variants.{At, Nothing}
 use Rattle.peers.specs.declared.Slot.{Slot}
 use Rattle.peers.specs.declared.Move.{Move}
 use Rattle.peers.specs.declared.Want.{Want}
@@ -46,7 +46,7 @@ module _ (row row′ : List Slot) (same : map holderOf row ≡ map holderOf row�
   id-same i = holder-id _ _ (at-same holderOf row row′ same noSlot i)
 
   found-same : (want : Want) (who : Identity) → walk want row who ≡ walk want row′ who
-  found-same want who = walk-same holderOf row row′ same (wanted want who) (wantedOf want who) (by-holder want who)
+  found-same want who = ap seatedAt (walk-same holderOf row row′ same (wanted want who) (wantedOf want who) (by-holder want who))
 
   pub slot-same : (who : Identity) → slotOf row who ≡ slotOf row′ who
   slot-same who = found-same Own who
@@ -61,8 +61,8 @@ module _ (row row′ : List Slot) (same : map holderOf row ≡ map holderOf row�
   left-same true i = λ j. record { id = id-same i j; connected = 0 }
   left-same false i = refl
 
-  parted-same : (bonded : Bool) (f : Found) → parted row bonded f ≡ parted row′ bonded f
-  parted-same bonded (At i) = ap (λ (s : Slot). record { place = i; slot = s; clears = not bonded; full = false }) (left-same bonded i)
+  parted-same : (bonded : Bool) (f : Seated) → parted row bonded f ≡ parted row′ bonded f
+  parted-same bonded (At k) = ap (λ (s : Slot). record { place = k .0; slot = s; clears = not bonded; full = false }) (left-same bonded (k .0))
   parted-same bonded Nothing = rw slots-same
 
   pub leaving-same : (who : Identity) (bonded : Bool) → leaving row who bonded ≡ leaving row′ who bonded

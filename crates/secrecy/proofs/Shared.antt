@@ -8,14 +8,15 @@ use native.Mathlib.Omega.{arith}
 use lib.Dec.{eqb}
 use lib.ListN.{length, getD, set}
 use borrow.Author.Tests.{eqb-true, eqb-false}
-use Rattle.wire.specs.declared.Found.{Found}
-use Rattle.wire.specs.declared.Found.the-variants.{At}
 use Rattle.client_att_table.specs.AsList.{TableCall, bytesAfter, itemAfter}
 use Rattle.attribute.specs.Lookup.{placeOf}
 use Rattle.attribute.specs.Needs.{accessOf}
 use Rattle.attribute.specs.Rules.{listOk}
 use Rattle.attribute.specs.declared.Link.{Link}
 use Rattle.peers.specs.Slots.{slotOf}
+use Rattle.peers.specs.declared.Seat.{Seat}
+use Rattle.peers.specs.declared.Seated.{Seated}
+use Rattle.peers.specs.declared.Seated.the-variants.{At}
 use Rattle.peers.specs.declared.Identity.{Identity}
 use Rattle.peers.proofs.Laws.{slot-inside}
 use Rattle.state.specs.State.{State, withTables}
@@ -35,7 +36,7 @@ use Rattle.secrecy.proofs.Own.{both-put, both-restored}
 use Rattle.secrecy.proofs.Kept.{SameKept, Sound, call-same}
 
 module _ (t : Identity) (may : ℕ → Bool) (a b : State) (x : Sound a) (y : Sound b) (same : AgreeOn t may a b) (who : Identity) where
-  abbrev slot : Found
+  abbrev slot : Seated
   slot = slotOf (a .row) who
 
   own : slotOf (a .row) who ≡ slotOf (b .row) who
@@ -48,8 +49,8 @@ module _ (t : Identity) (may : ℕ → Bool) (a b : State) (x : Sound a) (y : So
   within i l = omega (arith, length-same knownOf (a .list) (b .list) (same .list))
 
   -- a call of the table in the slot of a peer
-  at-slot : (k : ℕ) → slot ≡ At k → (c : TableCall) → SameKept t (a .row) (set (a .tables) k (bytesAfter (getD (a .tables) k []) c)) (set (b .tables) k (bytesAfter (getD (b .tables) k []) c))
-  at-slot k e c = call-same t a b x y (same .list) (same .row) (same .kept) k (slot-inside (a .row) who k e) c
+  at-slot : (k : Seat) → slot ≡ At k → (c : TableCall) → SameKept t (a .row) (set (a .tables) (k .0) (bytesAfter (getD (a .tables) (k .0) []) c)) (set (b .tables) (k .0) (bytesAfter (getD (b .tables) (k .0) []) c))
+  at-slot k e c = call-same t a b x y (same .list) (same .row) (same .kept) (k .0) (slot-inside (a .row) who k e) c
 
   -- `set_client_att_table`
   pub restored-same : (saved : List ℕ) → AgreeOn t may (withTables a (restored (a .tables) (slotOf (a .row) who) saved)) (withTables b (restored (b .tables) (slotOf (b .row) who) saved))
@@ -126,10 +127,10 @@ module _ (t : Identity) (may : ℕ → Bool) (a b : State) (x : Sound a) (y : So
 
   pub asked-same : (link : Link) (w : Pending) (rq : Request) (d : List ℕ) → AgreeOn t may (stateBy link a (slotOf (a .row) who) w rq d) (stateBy link b (slotOf (b .row) who) w rq d)
   asked-same link w rq d =
-      subst (λ (f : Found). AgreeOn t may (stateBy link a slot w rq d) (stateBy link b f w rq d)) own
+      subst (λ (f : Seated). AgreeOn t may (stateBy link a slot w rq d) (stateBy link b f w rq d)) own
       (requests.both-leave link a b slot (AgreeOn t may) same (places-same (a .list) (b .list) (same .list)) (λ i. ap (accessOf link 0x03) (fields i .writes)) (λ i l m off e. put-same i l off e) w rq d)
 
   pub stored-same : (h : ℕ) (d : List ℕ) → AgreeOn t may (storeLeft a (slotOf (a .row) who) (placeOf (a .list) h) d) (storeLeft b (slotOf (b .row) who) (placeOf (b .list) h) d)
   stored-same h d =
-      subst (λ (f : Found). AgreeOn t may (storeLeft a slot (placeOf (a .list) h) d) (storeLeft b f (placeOf (b .list) h) d)) own
+      subst (λ (f : Seated). AgreeOn t may (storeLeft a slot (placeOf (a .list) h) d) (storeLeft b f (placeOf (b .list) h) d)) own
       (sets.both-leave a b slot d (AgreeOn t may) same (places-same (a .list) (b .list) (same .list)) (wrong-same (length d)) (λ i l. put-same i l 0 d) h)

@@ -25,7 +25,7 @@ use Rattle.model.specs.declared.Request.the-variants as request
 use Rattle.model.specs.declared.Change.{Change}
 use Rattle.model.specs.declared.Change.the-variants.{Write, WriteCommand, PrepareWrite, ExecuteWrite}
 use Rattle.preparing.proofs.Preparing.{granted-fits}
-use Rattle.wire.specs.declared.Found.{Found}
+use Rattle.peers.specs.declared.Seated.{Seated}
 use Rattle.attribute_server.specs.Request.{Query, waitingBy}
 use Rattle.secrecy.specs.Agree.{nothing, settled, pendingAt}
 
@@ -65,7 +65,7 @@ module _ (w : Pending) (empty : eqb (w .handle) 0 ≡ true → w .bytes ≡ []) 
     pub told-settled : (list : List (List ℕ)) (store : List ℕ) (room : ℕ) (rq : Request) (d : List ℕ) → requestTold (seen w) list store room rq d ≡ requestTold (seen (settled w)) list store room rq d
     told-settled list store room rq d = settles (λ (u : Pending). requestTold (seen u) list store room rq d) w (told-nothing list store room rq d)
 
-  module _ (link : Link) (s : State) (slot : Found) (d : List ℕ) where
+  module _ (link : Link) (s : State) (slot : Seated) (d : List ℕ) where
     change-nothing : (e : eqb (w .handle) 0 ≡ true) (c : Change) → stateAfter link s slot w c d ≡ stateAfter link s slot nothing c d
     unfolding stateAfter
     change-nothing e (Write h) = refl

@@ -23,7 +23,7 @@ use Rattle.attribute.specs.Record.{attributeOf, uuidOf, withLength, entryOf}
 use Rattle.attribute.specs.Rules.{fieldsOk, rangeOk, entryOk, endAfter, entriesOk, listOk}
 use Rattle.attribute.specs.Needs.{accessOf}
 use Rattle.peers.specs.Identity.{sameId, isEmpty, isBad}
-use Rattle.peers.specs.Slots.{matches, wanted, connecting, noSlot}
+use Rattle.peers.specs.Slots.{matches, wanted, seatedAt, connecting, noSlot}
 use Rattle.state.specs.Fresh.{clientsOf, freshTable, spaceOf, entriesSize}
 use Rattle.state.specs.Valid.{laidOut, slotOk, slotsOk, valid, recordOk, validWith}
 use Rattle.model.specs.Value.{sharedItem, atValue, readOf, writeRule, writeOf}
@@ -116,7 +116,7 @@ lastByte (att c ∷ l) = 0
 
 -- what she hears computes
 hears : (heard ada (hubWith 3 0) calls ≡ answers) × (lastByte (heard ada (hubWith 1 0) calls) ≡ 0x30) × (lastByte (heard ada (hubWith 1 1) calls) ≡ 0x31)
-unfolding answers lastByte heard toldBy stepBy stateBy stateAfter putAt ownTables recordBy recordAfter dataBy dataAfter longer prepareRule sizeRule isDue executeAccess changeTold errorRsp writeAt writeOf writeRule afterWrite planAt laid withLen placeFrom indexPlace placeIn wanted matches tableAt itemsFrom itemAt valueAt lengthPut sharedList sharedStore withLength uuidOf connecting calls isRequest isCompared sameId isBad isEmpty zeros alike both hubWith stateWith listWith storeWith recordWith tableWith admissionBy isBadBuffer validWith recordOk valid afterAll word nextAt headAt lenAt indexEntryOk indexOk valueOk valuesOk accepts builder lastKey entryFits valueSize flagged pushPlan withEntry attributeOf fieldsOk rangeOk entryOk endAfter entriesOk listOk clientsOf freshTable spaceOf entriesSize laidOut slotOk slotsOk requestTold askRsp valueRsp readAt first seenBy entryOf accessOf readOf atValue sharedItem
+unfolding answers lastByte heard toldBy stepBy stateBy stateAfter putAt ownTables recordBy recordAfter dataBy dataAfter longer prepareRule sizeRule isDue executeAccess changeTold errorRsp writeAt writeOf writeRule afterWrite planAt laid withLen placeFrom indexPlace placeIn wanted seatedAt matches tableAt itemsFrom itemAt valueAt lengthPut sharedList sharedStore withLength uuidOf connecting calls isRequest isCompared sameId isBad isEmpty zeros alike both hubWith stateWith listWith storeWith recordWith tableWith admissionBy isBadBuffer validWith recordOk valid afterAll word nextAt headAt lenAt indexEntryOk indexOk valueOk valuesOk accepts builder lastKey entryFits valueSize flagged pushPlan withEntry attributeOf fieldsOk rangeOk entryOk endAfter entriesOk listOk clientsOf freshTable spaceOf entriesSize laidOut slotOk slotsOk requestTold askRsp valueRsp readAt first seenBy entryOf accessOf readOf atValue sharedItem
 hears = (refl, refl, refl)
 
 not-same : heard ada (hubWith 1 0) calls ≡ heard ada (hubWith 1 1) calls → ⊥

@@ -8,13 +8,14 @@ use lib.ListN.{length, getD, replicate, getD-replicate}
 use lib.Dec.{ltb}
 use borrow.Author.Tests.{eq-eqb, le-leb, leb-true}
 use Rattle.wire.specs.Size.{slotCount, tableBytes}
-use Rattle.wire.specs.declared.Found.the-variants.{At}
 use Rattle.wire.proofs.Tests.{both-r, both-true}
 use Rattle.table_view.specs.Told.{done, refused}
 use Rattle.attribute.specs.Rules.{listOk}
 use Rattle.peers.specs.Identity.{isEmpty, isBad}
 use Rattle.peers.specs.Slots.{slotOf, taken, connecting, nobody, left, leaving, noSlot}
 use Rattle.peers.specs.declared.Identity.{Identity}
+use Rattle.peers.specs.declared.Seat.{Seat}
+use Rattle.peers.specs.declared.Seated.the-variants.{At}
 use Rattle.peers.specs.declared.Want.the-variants.{Usable, Free}
 use Rattle.peers.proofs.Identities.{nobody-empty}
 use Rattle.peers.proofs.Laws.{walk-inside, slot-inside}
@@ -79,15 +80,15 @@ module _ (s : State) (v : valid s ≡ true) (sized : (i : ℕ) → i < slotCount
   connect-valid g =
       let e = good-somebody who g in
       by-joining (s .row) who (λ m. valid (afterMove s m) ≡ true)
-      (λ i h. taken-valid s v sized i (walk-inside (s .row) who Usable i h) (taken who) e)
-      (λ i u h. retaken-valid s v sized i (walk-inside (s .row) who Free i h) (taken who) e)
+      (λ k h. taken-valid s v sized (k .0) (walk-inside (s .row) who Usable k h) (taken who) e)
+      (λ k u h. retaken-valid s v sized (k .0) (walk-inside (s .row) who Free k h) (taken who) e)
       (stay-valid s v (record { place = length (s .row); slot = taken who; clears = false; full = true }) (omega arith) refl)
 
-  left-valid : (bonded : Bool) (i : ℕ) → slotOf (s .row) who ≡ At i
-      → valid (afterMove s (record { place = i; slot = left bonded (getD (s .row) i noSlot); clears = not bonded; full = false })) ≡ true
+  left-valid : (bonded : Bool) (k : Seat) → slotOf (s .row) who ≡ At k
+      → valid (afterMove s (record { place = k .0; slot = left bonded (getD (s .row) (k .0) noSlot); clears = not bonded; full = false })) ≡ true
   unfolding left
-  left-valid true i h = parted-valid s v sized i (slot-inside (s .row) who i h) (record { id = getD (s .row) i noSlot .id; connected = 0 }) refl
-  left-valid false i h = emptied-valid s v sized i (slot-inside (s .row) who i h) (record { id = nobody; connected = 0 }) nobody-empty
+  left-valid true k h = parted-valid s v sized (k .0) (slot-inside (s .row) who k h) (record { id = getD (s .row) (k .0) noSlot .id; connected = 0 }) refl
+  left-valid false k h = emptied-valid s v sized (k .0) (slot-inside (s .row) who k h) (record { id = nobody; connected = 0 }) nobody-empty
 
   pub disconnect-valid : (bonded : Bool) → valid (afterMove s (leaving (s .row) who bonded)) ≡ true
   disconnect-valid bonded =

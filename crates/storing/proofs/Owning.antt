@@ -8,8 +8,6 @@ use lib.ListN.{length, getD, set}
 use lib.Dec.{ltb}
 use Rattle.wire.specs.First.{first}
 use Rattle.wire.specs.Number.{word}
-use Rattle.wire.specs.declared.Found.{Found}
-use Rattle.wire.specs.declared.Found.the-variants.{At, Nothing}
 use Rattle.table_view.specs.Layout.{countOf, capAt, lenAt}
 use Rattle.table_view.specs.Rules.{accepts}
 use Rattle.table_view.specs.Lookup.{indexPlace}
@@ -25,6 +23,9 @@ use Rattle.client_att_table.specs.Write.{planAt, planOf, answer, afterPlan, aft
 use Rattle.client_att_table.specs.declared.Plan.the-variants.{Into, Not}
 use Rattle.attribute.specs.declared.Access.{Access}
 use Rattle.attribute.specs.declared.Access.the-variants.{Granted, Denied}
+use Rattle.peers.specs.declared.Seat.{Seat}
+use Rattle.peers.specs.declared.Seated.{Seated}
+use Rattle.peers.specs.declared.Seated.the-variants.{At, Nothing}
 use Rattle.model.specs.Value.{writeRule, itemWrite, ownWrite}
 use Rattle.model.specs.View.{tableAt}
 use Rattle.model.specs.Change.{ownTables}
@@ -56,14 +57,14 @@ unfolding afterWrite
 own-after bs ok h off d = rw ok
 
 -- a write into the table of a slot
-module _ (ts : List (List ℕ)) (slot : Found) (h off : ℕ) (d : List ℕ) where
+module _ (ts : List (List ℕ)) (slot : Seated) (h off : ℕ) (d : List ℕ) where
   pub no-slot : slot ≡ Nothing → (Denied 0x0A ≡ ownWrite (tableAt ts slot) h off (length d)) × (ts ≡ ownTables ts slot h off d)
   unfolding tableAt ownTables first itemsFrom word
   no-slot e = rw e (refl, refl)
 
-  pub in-slot : (k : ℕ) → slot ≡ At k → accepts (getD ts k []) ≡ true → (r : Access) (t : List ℕ) → r ≡ accessBy (answer (planOf (getD ts k []) h off (length d))) → t ≡ afterPlan (getD ts k []) off d (planOf (getD ts k []) h off (length d))
-      → (r ≡ ownWrite (tableAt ts slot) h off (length d)) × (set ts k t ≡ ownTables ts slot h off d)
+  pub in-slot : (k : Seat) → slot ≡ At k → accepts (getD ts (k .0) []) ≡ true → (r : Access) (t : List ℕ) → r ≡ accessBy (answer (planOf (getD ts (k .0) []) h off (length d))) → t ≡ afterPlan (getD ts (k .0) []) off d (planOf (getD ts (k .0) []) h off (length d))
+      → (r ≡ ownWrite (tableAt ts slot) h off (length d)) × (set ts (k .0) t ≡ ownTables ts slot h off d)
   unfolding tableAt ownTables
   in-slot k e ok r t p q =
       rw e
-      (p ∙ own-write (getD ts k []) ok h off (length d), ap (λ (x : List ℕ). set ts k x) (q ∙ own-after (getD ts k []) ok h off d))
+      (p ∙ own-write (getD ts (k .0) []) ok h off (length d), ap (λ (x : List ℕ). set ts (k .0) x) (q ∙ own-after (getD ts (k .0) []) ok h off d))

@@ -11,7 +11,6 @@ use lib.Seq.{sets, length-sets, getD-set-same, getD-set-other}
 use borrow.Author.Tests.{lt-ltb, le-ltb}
 use Rattle.wire.specs.Size.{recordBytes}
 use Rattle.wire.specs.Number.{wordBytes}
-use Rattle.wire.specs.declared.Found.{Found}
 use Rattle.wire.proofs.Tests.{split}
 use Rattle.wire.proofs.Sets.{before, past, part-same, drop-sets}
 use Rattle.client_att_table.specs.AsList.{newValue, itemTold, itemAfter}
@@ -23,6 +22,7 @@ use Rattle.attribute.specs.declared.Access.{Access}
 use Rattle.attribute.specs.declared.Access.the-variants.{Granted, Denied}
 use Rattle.attribute.proofs.Shape.{shared, apart}
 use Rattle.attribute.proofs.Kept.{fields-kept, known-kept}
+use Rattle.peers.specs.declared.Seated.{Seated}
 use Rattle.state.specs.State.{State}
 use Rattle.model.specs.Value.{sharedItem, writeRule}
 use Rattle.model.specs.Change.{ifGranted, lengthPut, sharedList, sharedStore, putAt}
@@ -69,7 +69,7 @@ by-kind true = inl refl
 by-kind false = inr refl
 
 module _ (s : State) (ok : listOk (s .list) (length (s .store)) ≡ true) (records : (k : ℕ) → k < length (s .list) → length (getD (s .list) k []) ≡ recordBytes)
-    (slot : Found) (i : ℕ) (l : i < length (s .list)) (off : ℕ) (d : List ℕ) where
+    (slot : Seated) (i : ℕ) (l : i < length (s .list)) (off : ℕ) (d : List ℕ) where
   -- the value that is written acts as an item of a plain list
   pub item-put : attributeOf (getD (s .list) i []) .client ≡ false
       → sharedItem (putAt s slot i off d .store) (attributeOf (getD (putAt s slot i off d .list) i [])) ≡ itemAfter off d (sharedItem (s .store) (attributeOf (getD (s .list) i [])))

@@ -8,10 +8,7 @@ use native.Mathlib.Omega.{arith}
 use lib.ListN.{length, getD, set, length-set}
 use lib.Seq.{sets, length-sets, getD-set-same}
 use Rattle.wire.specs.Size.{slotCount, tableBytes, recordBytes}
-use Rattle.wire.specs.declared.Found.{Found}
-use Rattle.wire.specs.declared.Found.the-variants.{At, Nothing}
 use Rattle.wire.proofs.Tests.{both-l, both-r, both-true}
-use Rattle.wire.proofs.Walk.{placed}
 use Rattle.table_view.specs.Rules.{accepts}
 use Rattle.client_att_table.specs.Write.{afterWrite}
 use Rattle.client_att_table.specs.AsList.{write, bytesAfter}
@@ -23,12 +20,15 @@ use Rattle.attribute.specs.declared.Access.{Access}
 use Rattle.attribute.specs.declared.Access.the-variants.{Granted, Denied}
 use Rattle.attribute.proofs.Kept.{HoldsLength, fields-kept, variable-holds, length-kept}
 use Rattle.peers.specs.Identity.{isEmpty, isBad}
-use Rattle.peers.specs.Slots.{wanted, slotOf, noSlot}
+use Rattle.peers.specs.Slots.{slotOf, noSlot}
 use Rattle.peers.specs.declared.Identity.{Identity}
+use Rattle.peers.specs.declared.Seat.{Seat}
+use Rattle.peers.specs.declared.Seated.{Seated}
+use Rattle.peers.specs.declared.Seated.the-variants.{At, Nothing}
 use Rattle.peers.specs.declared.Want.the-variants.{Own}
 use Rattle.peers.proofs.Changes.{table-set}
 use Rattle.peers.proofs.Identities.{same-is}
-use Rattle.peers.proofs.Laws.{own-wanted}
+use Rattle.peers.proofs.Laws.{own-wanted, walk-placed}
 use Rattle.state.specs.State.{State, state, withTables}
 use Rattle.state.specs.Fresh.{clientsOf, freshTable, spaceOf, entriesSize}
 use Rattle.state.specs.Valid.{valid}
@@ -98,24 +98,24 @@ module _ (s : State) (v : valid s ≡ true) where
 
   -- another table of a slot that is somebody's
   module _ (who : Identity) (good : isBad who ≡ false) (sized : (k : ℕ) → k < slotCount → length (getD (s .tables) k []) ≡ tableBytes) where
-    pub kept-valid : (k : ℕ) → slotOf (s .row) who ≡ At k → (out : List ℕ) → (accepts (getD (s .tables) k []) ≡ true → Kept (getD (s .tables) k []) out)
-        → valid (withTables s (set (s .tables) k out)) ≡ true
+    pub kept-valid : (k : Seat) → slotOf (s .row) who ≡ At k → (out : List ℕ) → (accepts (getD (s .tables) (k .0) []) ≡ true → Kept (getD (s .tables) (k .0) []) out)
+        → valid (withTables s (set (s .tables) (k .0) out)) ≡ true
     kept-valid k e out kept =
         let fresh = freshTable (s .list) in
-        let w = placed (wanted Own who) noSlot (s .row) 0 k e in
+        let w = walk-placed (s .row) who Own k e in
         let m = eight-tables s v in
-        let inside : k < slotCount = omega (arith, w .inside, eight-slots s v) in
-        let x = getD (s .row) k noSlot in
-        let t = getD (s .tables) k [] in
-        let laid = laid-at s v k inside in
-        let here = somebody fresh x out (kept-laid fresh (fresh-length (s .list)) (laid-builder (s .list)) t (sized k inside) laid out (kept (laid-accepts fresh t laid))) (ap isEmpty (same-is (x .id) who (own-wanted who x ∙ w .passes)) ∙ good-somebody who good) in
-        with-slots s v (s .row) (set (s .tables) k out) (length-set (s .tables) k out)
-        (slot-changed fresh k (s .row) (s .row) (s .tables) (set (s .tables) k out) (table-set k (s .row) (s .tables) out) (right-slots s v) (rw (getD-set-same (s .tables) k out [] (omega arith)) here))
+        let inside : k .0 < slotCount = omega (arith, w .inside, eight-slots s v) in
+        let x = getD (s .row) (k .0) noSlot in
+        let t = getD (s .tables) (k .0) [] in
+        let laid = laid-at s v (k .0) inside in
+        let here = somebody fresh x out (kept-laid fresh (fresh-length (s .list)) (laid-builder (s .list)) t (sized (k .0) inside) laid out (kept (laid-accepts fresh t laid))) (ap isEmpty (same-is (x .id) who (own-wanted who x ∙ w .passes)) ∙ good-somebody who good) in
+        with-slots s v (s .row) (set (s .tables) (k .0) out) (length-set (s .tables) (k .0) out)
+        (slot-changed fresh (k .0) (s .row) (s .row) (s .tables) (set (s .tables) (k .0) out) (table-set (k .0) (s .row) (s .tables) out) (right-slots s v) (rw (getD-set-same (s .tables) (k .0) out [] (omega arith)) here))
 
-    own-valid : (h off : ℕ) (d : List ℕ) (f : Found) → slotOf (s .row) who ≡ f → valid (withTables s (ownTables (s .tables) f h off d)) ≡ true
+    own-valid : (h off : ℕ) (d : List ℕ) (f : Seated) → slotOf (s .row) who ≡ f → valid (withTables s (ownTables (s .tables) f h off d)) ≡ true
     unfolding ownTables
     own-valid h off d Nothing e = v
-    own-valid h off d (At k) e = kept-valid k e _ (λ ok. table-kept (getD (s .tables) k []) ok h off d)
+    own-valid h off d (At k) e = kept-valid k e _ (λ ok. table-kept (getD (s .tables) (k .0) []) ok h off d)
 
 store-length : (store : List ℕ) (a : Attribute) (off : ℕ) (d : List ℕ) → length (sharedStore store a off d) ≡ length store
 unfolding sharedStore

@@ -7,7 +7,6 @@ use Prim.Native.Nat.{ℕ, _<_}
 use native.Mathlib.Omega.{arith}
 use lib.ListN.{length, getD, drop, length-drop}
 use lib.Seq.{length-take-le}
-use Rattle.wire.specs.declared.Found.{Found}
 use Rattle.wire.specs.declared.Found.the-variants.{At, Nothing}
 use Rattle.attribute.specs.Record.{attributeOf}
 use Rattle.attribute.specs.Lookup.{placeOf}
@@ -18,6 +17,7 @@ use Rattle.attribute.specs.declared.Link.{Link}
 use Rattle.attribute.specs.declared.Access.{Access}
 use Rattle.attribute.specs.declared.Access.the-variants.{Granted, Denied}
 use Rattle.attribute.proofs.Shape.{shared}
+use Rattle.peers.specs.declared.Seated.{Seated}
 use Rattle.state.specs.State.{Becomes}
 use Rattle.model.specs.Value.{sharedItem, atValue, ownWrite, writeOf}
 use Rattle.model.specs.View.{Seen, seenBy, seenAll, tableAt, writeAt}
@@ -39,7 +39,7 @@ second : {A : Type 0} (t : Bool) (x y : A) → t ≡ false → y ≡ cond t x y
 second t x y e = rw e
 
 -- by place
-module _ (list : List (List ℕ)) (store : List ℕ) (ts : List (List ℕ)) (slot : Found) (i off : ℕ) (d : List ℕ) (a : Attribute) (is : a ≡ attributeOf (getD list i [])) where
+module _ (list : List (List ℕ)) (store : List ℕ) (ts : List (List ℕ)) (slot : Seated) (i off : ℕ) (d : List ℕ) (a : Attribute) (is : a ≡ attributeOf (getD list i [])) where
   pub own-put : a .client ≡ true → (r : Access) (ts′ : List (List ℕ)) → r ≡ ownWrite (tableAt ts slot) (a .handle) off (length d) → ts′ ≡ ownTables ts slot (a .handle) off d
       → (r ≡ writeOf store (tableAt ts slot) (attributeOf (getD list i [])) off (length d)) × Becomes (λ s. putAt s slot i off d) list store ts list store ts′
   unfolding writeOf atValue putAt
@@ -63,7 +63,7 @@ module _ (list : List (List ℕ)) (store : List ℕ) (ts : List (List ℕ)) (slo
       )
 
 -- by handle
-module _ (link : Link) (list : List (List ℕ)) (store : List ℕ) (ts : List (List ℕ)) (slot : Found) (h off : ℕ) (d : List ℕ) where
+module _ (link : Link) (list : List (List ℕ)) (store : List ℕ) (ts : List (List ℕ)) (slot : Seated) (h off : ℕ) (d : List ℕ) where
   pub not-listed : placeOf list h ≡ Nothing
       → (Denied 0x0A ≡ writeAt h off (length d) (seenAll link list store (tableAt ts slot))) × Becomes (λ s. written link s slot h off d) list store ts list store ts
   unfolding writeAt

@@ -15,6 +15,7 @@ ghost use Rattle.model.specs.Change.{sharedList, sharedStore, ownTables, putAt,
 ghost use Rattle.storing.specs.Ready.{SlotReady, ReadyToStore, accessBy};
 use attribute::Access;
 use attribute::Link;
+use peers::Seated;
 use table_view::Key;
 use table_view::Outcome;
 use wire::Found;
@@ -78,15 +79,16 @@ fn as_access(w: Outcome) -> Access
 }
 
 // Writes d at an offset of the client value under a handle, in the table of a slot.
-fn put_own(tables: &mut [Table], slot: Found, handle: u16, offset: usize, d: &[u8]) -> Access
+fn put_own(tables: &mut [Table], slot: Seated, handle: u16, offset: usize, d: &[u8]) -> Access
     requires { ⌜ SlotReady (now tables) slot ⌝ }
     ensures { λ r. ⌜ (r ≡ ownWrite (tableAt (now (tables .entry)) slot) handle offset (length (now (d .entry))))
         × (now (tables .exit) ≡ ownTables (now (tables .entry)) slot handle offset (now (d .entry))) ⌝ }
 {
-    let Found::At(k) = slot else {
+    let Seated::At(k) = slot else {
         return Access::Denied(0x0A);
     };
-    as_access(client_att_table::inner::write(&mut tables[k], Key(handle), offset, d))
+    let at = k.0;
+    as_access(client_att_table::inner::write(&mut tables[at], Key(handle), offset, d))
 }
 
 // Writes d at an offset of the value of the entry at place i, whoever asks. `slot` is the writing peer's.
@@ -94,7 +96,7 @@ pub fn put_at(
     list: &mut [Record],
     store: &mut [u8],
     tables: &mut [Table],
-    slot: Found,
+    slot: Seated,
     i: usize,
     offset: usize,
     d: &[u8],
@@ -115,7 +117,7 @@ pub fn write(
     list: &mut [Record],
     store: &mut [u8],
     tables: &mut [Table],
-    slot: Found,
+    slot: Seated,
     link: Link,
     handle: u16,
     offset: usize,

@@ -12,7 +12,7 @@ use borrow.Author.Tests.{eq-eqb, ne-eqb, eqb-true}
 use Rattle.wire.proofs.Tests.{split}
 use Rattle.table_view.specs.Layout.{countOf, keyAt}
 use Rattle.table_view.specs.Rules.{accepts}
-use Rattle.table_view.specs.Lookup.{placeFrom, indexPlace}
+use Rattle.table_view.specs.Lookup.{placeFrom, indexPlace, soughtIndex}
 use Rattle.table_view.specs.declared.Place.{Place}
 use Rattle.table_view.specs.declared.Indexed.{Indexed}
 use Rattle.table_view.specs.declared.Indexed.the-variants.{At, Nothing}
@@ -101,3 +101,10 @@ module _ (bs : List ℕ) (k : ℕ) where
   pub placed : (p : Place) → indexPlace bs k ≡ At p → KeyPlaced bs k (p .0)
   unfolding indexPlace
   placed p h = walked (countOf bs) 0 p (omega arith) h
+
+-- equal tellings are equal answers: of a lookup there is one
+pub one-index : (f g : Indexed) → soughtIndex f ≡ soughtIndex g → f ≡ g
+one-index (At p) (At q) e = let s : p .0 ≡ q .0 = cc in λ i. At (record { 0 = s i })
+one-index (At p) Nothing e = let z : _≡_ {A = ℕ} 0 1 = cc in absurd (omega arith)
+one-index Nothing (At q) e = let z : _≡_ {A = ℕ} 0 1 = cc in absurd (omega arith)
+one-index Nothing Nothing e = refl

@@ -8,12 +8,12 @@ use lib.Seq.{length-take-le}
 use borrow.Author.Tests.{eq-eqb, ne-eqb, leb-true}
 use Rattle.wire.specs.Size.{valueBytes}
 use Rattle.wire.specs.Test.{both}
-use Rattle.wire.specs.declared.Found.{Found}
 use Rattle.wire.proofs.Tests.{both-l}
 use Rattle.table_view.specs.Told.{Told, value, none}
 use Rattle.attribute.specs.declared.Access.{Access}
 use Rattle.attribute.specs.declared.Access.the-variants.{Granted}
 use Rattle.attribute.specs.declared.Link.{Link}
+use Rattle.peers.specs.declared.Seated.{Seated}
 use Rattle.state.specs.State.{Becomes}
 use Rattle.state.specs.Valid.{recordOk}
 use Rattle.state.specs.declared.Prepared.{Prepared}
@@ -45,7 +45,7 @@ module _ (w : Pending) (flags : ℕ) where
   unfolding isDue both
   is-due e f = rw (eq-eqb flags 1 f, ne-eqb (w .handle) 0 e)
 
-module _ (link : Link) (list : List (List ℕ)) (store : List ℕ) (ts : List (List ℕ)) (slot : Found) (v : View) (flags : ℕ) (d : List ℕ) where
+module _ (link : Link) (list : List (List ℕ)) (store : List ℕ) (ts : List (List ℕ)) (slot : Seated) (v : View) (flags : ℕ) (d : List ℕ) where
   pub not-due : isDue (v .pending) flags ≡ false → (Granted ≡ executeAccess v flags) × Becomes (λ s. stateAfter link s slot (v .pending) (ExecuteWrite flags) d) list store ts list store ts
   unfolding executeAccess stateAfter
   not-due h = rw h (refl, λ row. refl)
@@ -57,14 +57,14 @@ module _ (link : Link) (list : List (List ℕ)) (store : List ℕ) (ts : List (L
   due h a list′ store′ ts′ e l = rw h (e, l)
 
 -- the four requests: what each leaves, and what it tells
-pub record Leaves (link : Link) (list : List (List ℕ)) (store : List ℕ) (ts : List (List ℕ)) (slot : Found) (v : View) (p : Prepared) (bytes d : List ℕ) (rq : Change)
+pub record Leaves (link : Link) (list : List (List ℕ)) (store : List ℕ) (ts : List (List ℕ)) (slot : Seated) (v : View) (p : Prepared) (bytes d : List ℕ) (rq : Change)
     (list′ : List (List ℕ)) (store′ : List ℕ) (ts′ : List (List ℕ)) (q : Prepared) (new : List ℕ) (t : Told) : Type 0 where
   pub record-is : q ≡ recordAfter p rq (length d)
   pub bytes-are : new ≡ dataAfter p bytes rq d
   pub state-is : Becomes (λ s. stateAfter link s slot (v .pending) rq d) list store ts list′ store′ ts′
   pub tells : t ≡ changeTold v rq d
 
-module _ (link : Link) (list : List (List ℕ)) (store : List ℕ) (ts : List (List ℕ)) (slot : Found) (v : View) (p : Prepared) (bytes d : List ℕ) (rq : Change) where
+module _ (link : Link) (list : List (List ℕ)) (store : List ℕ) (ts : List (List ℕ)) (slot : Seated) (v : View) (p : Prepared) (bytes d : List ℕ) (rq : Change) where
   module _ (list′ : List (List ℕ)) (store′ : List ℕ) (ts′ : List (List ℕ)) where
     pub write-leaves : (h : ℕ) (a : Access) → rq ≡ Write h → a ≡ writeAt h 0 (length d) (v .attrs) → Becomes (λ s. written link s slot h 0 d) list store ts list′ store′ ts′
         → Leaves link list store ts slot v p bytes d rq list′ store′ ts′ p bytes (value (doneRsp (0x13 ∷ []) 0x12 h a))

@@ -19,12 +19,12 @@ use attribute::Access;
 use attribute::Link;
 use model::Answer;
 use model::Change;
+use peers::Seated;
 use preparing::Changed;
 use preparing::inner::no_record;
 use preparing::inner::prepare;
 use preparing::inner::with_record;
 use state::Prepared;
-use wire::Found;
 use wire::sizes::Record;
 use wire::sizes::Table;
 
@@ -33,7 +33,7 @@ fn commit(
     list: &mut [Record],
     store: &mut [u8],
     tables: &mut [Table],
-    slot: Found,
+    slot: Seated,
     link: Link,
     p: Prepared,
     bytes: &[u8],
@@ -67,7 +67,7 @@ pub fn change(
     list: &mut [Record],
     store: &mut [u8],
     tables: &mut [Table],
-    slot: Found,
+    slot: Seated,
     link: Link,
     p: Prepared,
     bytes: &mut [u8],

@@ -1,7 +1,6 @@
 -- `attribute_server::value::can` meets its contract. A refusal, or what the list and the link say. Assumes nothing.
-use Rattle.attribute.specs.Needs.{toldAccess}
 use Rattle.admission.proofs.Admitting.{told-no, told-yes}
-use mathlib.Core.Path.{sym, ap, _∙_}
+use mathlib.Core.Path.{sym, _∙_}
 use borrow.Author.Needs.{needs}
 use Rattle.attribute_server.proofs.value.can.Statement.{statement}
 use Rattle.attribute_server.proofs.value.can.Tie as tie
@@ -29,7 +28,7 @@ accessed-requires c κs = search needs
 returns-2 : tie.Need-returns-2
 returns-2 c =
     let at-admit = c .before .before .before .before in
-    c .accessed .ensures ∙ ap toldAccess (c .before .can .ensures) ∙ told-yes _ _
+    c .accessed .ensures ∙ c .before .can .ensures ∙ told-yes _ _
     (sym (at-admit .admit .ensures) ∙ c .before .before .enum-told .given .1)
 
 pub can-spec : {M : Type 1} → statement M

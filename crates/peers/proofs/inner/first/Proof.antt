@@ -2,7 +2,7 @@
 use mathlib.Core.Path.{_≡_, refl, sym, _∙_}
 use Prim.Native.Nat.{_≤_, _-_}
 use lib.ListN.{length}
-use Rattle.peers.specs.Slots.{wanted}
+use Rattle.peers.specs.Slots.{wanted, seatedAt, walk}
 use Rattle.wire.specs.Walk.{placeFrom}
 use Rattle.peers.specs.Bytes.{rowOf}
 use Rattle.peers.proofs.Laws.{row-hit, row-miss, row-end}
@@ -11,7 +11,7 @@ use Rattle.peers.proofs.inner.first.Statement.{statement}
 use Rattle.peers.proofs.inner.first.Tie as tie
 
 abbrev Inv-loop : tie.InvT-loop
-Inv-loop row who want i₀ i = (i ≤ length row) × (placeFrom (wanted want who) (rowOf row) i ≡ placeFrom (wanted want who) (rowOf row) 0)
+Inv-loop row who want i₀ i = (i ≤ length row) × (seatedAt (placeFrom (wanted want who) (rowOf row) i) ≡ walk want (rowOf row) who)
 
 abbrev μ-loop : tie.MeasureT-loop
 μ-loop row who want i₀ i = length row - i

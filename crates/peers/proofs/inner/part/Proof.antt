@@ -7,23 +7,24 @@ use Prim.Native.Nat.{ℕ, _<_}
 use native.Mathlib.Omega.{arith}
 use lib.ListN.{length, getD}
 use borrow.Author.Needs.{needs}
-use Rattle.wire.specs.declared.Found.the-variants.{At}
 use Rattle.peers.specs.Bytes.{slotIn, rowOf}
 use Rattle.peers.specs.Slots.{left, parted}
 use Rattle.peers.specs.declared.Slot.{Slot}
+use Rattle.peers.specs.declared.Seat.{Seat}
+use Rattle.peers.specs.declared.Seated.the-variants.{At}
 use Rattle.peers.proofs.Rows.{length-row, row-at}
 use Rattle.peers.proofs.inner.part.Statement.{statement}
 use Rattle.peers.proofs.inner.part.Tie as tie
 
 -- the move of a slot that was found
 parts :
-    (es : List (List ℕ)) (bonded : Bool) (i : ℕ) {s r : Slot} → i < length es → s ≡ slotIn (getD es i []) → r ≡ left bonded s
-    → record { place = i; slot = r; clears = not bonded; full = false } ≡ parted (rowOf es) bonded (At i)
-parts es bonded i h e f =
-    ap (λ (s : Slot). record { place = i; slot = s; clears = not bonded; full = false }) (f ∙ ap (left bonded) (e ∙ sym (row-at es i h)))
+    (es : List (List ℕ)) (bonded : Bool) (k : Seat) {s r : Slot} → k .0 < length es → s ≡ slotIn (getD es (k .0) []) → r ≡ left bonded s
+    → record { place = k .0; slot = r; clears = not bonded; full = false } ≡ parted (rowOf es) bonded (At k)
+parts es bonded k h e f =
+    ap (λ (s : Slot). record { place = k .0; slot = s; clears = not bonded; full = false }) (f ∙ ap (left bonded) (e ∙ sym (row-at es (k .0) h)))
 
 -- what was found lies in the row
-inside : (c : tie.After-own) → c .own .given .0 .0 < length (c .before .before .args .row .now)
+inside : (c : tie.After-own) → c .own .given .0 .0 .0 < length (c .before .before .args .row .now)
 inside c = rw (c .own .given .1) at (c .before .before .pre)
 
 enum-known-own : tie.Need-enum-known-own

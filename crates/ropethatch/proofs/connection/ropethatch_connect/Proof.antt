@@ -45,13 +45,13 @@ use denote.Triple.Spec.{Meets, tripleOf}
 use denote.Triple.Table.{entered, cited}
 use denote.Triple.Walked.{says, Stays, stay-slice, gave-slice, stay-dropped, walkOf, goes-slice, goes-gave-slice, goes-dropped, ends-at, walked, walk-meets}
 use denote.Exit.{yes}
-use Rattle.wire.specs.declared.Found.{Found}
-use Rattle.wire.proofs.Found as F
-use Rattle.wire.proofs.Found.Laws as F′
+use Rattle.peers.specs.declared.Seated.{Seated}
 use Rattle.peers.specs.declared.Identity.{Identity}
 use Rattle.peers.proofs.Identity as I
 use Rattle.peers.proofs.Identity.Laws as I′
 use Rattle.peers.specs.declared.Slot.{Slot}
+use Rattle.peers.proofs.Seated as F
+use Rattle.peers.proofs.Seated.Laws as F′
 use Rattle.peers.proofs.Slot as S
 use Rattle.peers.proofs.Slot.Laws as S′
 use Rattle.peers.proofs.Want as N
@@ -144,16 +144,16 @@ module _ {M : Type 1} (𝓤 : URA M) (H : Heap 𝓤) (A : Atoms 𝓤) (W : Given
   abbrev core-lfts : Lfts 3
   core-lfts = (κs .1 .0, (κs .1 .1 .0, (κs .1 .1 .1 .0, tt)))
 
-  abbrev core-args : Found → Found → Args core.signature core-lfts
+  abbrev core-args : Seated → Seated → Args core.signature core-lfts
   core-args = λ usable free. (list, (st, (ys, (ts, (who, (usable, (free, tt)))))))
 
-  abbrev to-core : Found → Found → Known 𝓤 H A core.ended (core.clauses 𝓤 H A mem run) .Ghost
+  abbrev to-core : Seated → Seated → Known 𝓤 H A core.ended (core.clauses 𝓤 H A mem run) .Ghost
   to-core = λ usable free. ((core-lfts, (qs .1 .0, (qs .1 .1 .0, (qs .1 .1 .1 .0, tt))), tt, core-args usable free, (sliceVal (list .ptr) (length (list .now)) ∷ [], (sliceVal (st .ptr) (length (st .now)) ∷ [], (row-low ys ∷ [], (sliceVal (ts .ptr) (length (ts .now)) ∷ [], (I′.lowered who ∷ [], (F′.lowered usable ∷ [], (F′.lowered free ∷ [], tt)))))))), tt)
 
   abbrev Giving : Item 𝓤
   Giving = ‵ (flft (κs .1 .0) (qs .1 .0)) ⊛ ‵ (flft (κs .1 .1 .0) (qs .1 .1 .0)) ⊛ ‵ (flft (κs .1 .1 .1 .0) (qs .1 .1 .1 .0)) ⊛ ‵ (ShrSlice (named 0) (κs .1 .0) (Array u8 32) .own list (sliceVal (list .ptr) (length (list .now)) ∷ [])) ⊛ ‵ (ShrSlice (named 1) (κs .1 .1 .0) u8 .own st (sliceVal (st .ptr) (length (st .now)) ∷ [])) ⊛ ‵ (MutSlice (named 2) (κs .1 .1 .1 .0) (Array u8 640) .own ts (sliceVal (ts .ptr) (length (ts .now)) ∷ []))
 
-  goes-core : (usable free : Found) → (usable ≡ walk Usable ys who) × (free ≡ walk Free ys who) → Is Row ys (row-low ys ∷ []) → Is I.the-row who (I′.lowered who ∷ []) → Is F.the-row usable (F′.lowered usable ∷ []) → Is F.the-row free (F′.lowered free ∷ []) → ent 𝓤 (mean 𝓤 H A Giving) (Known 𝓤 H A core.ended (core.clauses 𝓤 H A mem run) .pre (to-core usable free))
+  goes-core : (usable free : Seated) → (usable ≡ walk Usable ys who) × (free ≡ walk Free ys who) → Is Row ys (row-low ys ∷ []) → Is I.the-row who (I′.lowered who ∷ []) → Is F.the-row usable (F′.lowered usable ∷ []) → Is F.the-row free (F′.lowered free ∷ []) → ent 𝓤 (mean 𝓤 H A Giving) (Known 𝓤 H A core.ended (core.clauses 𝓤 H A mem run) .pre (to-core usable free))
   goes-core usable free asked is-row is-who is-usable is-free =
       qed W (Giving ∷ []) ∵ split ! $ move ! (1 ∷ []) $ split ! $ move ! (1 ∷ []) $ split ! $ move ! (1 ∷ []) $ split ! $ move ! (1 ∷ []) $ split ! $
       use0 W (raw (core.clauses 𝓤 H A mem run core-lfts (core-args usable free) .requires tt)) (factI 𝓤 ((usable ≡ walk Usable ys who) × (free ≡ walk Free ys who)) (emp 𝓤) asked) $

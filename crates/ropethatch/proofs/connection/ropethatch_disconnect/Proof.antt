@@ -45,13 +45,13 @@ use denote.Triple.Spec.{Meets, tripleOf}
 use denote.Triple.Table.{entered, cited}
 use denote.Triple.Walked.{says, Stays, stay-slice, gave-slice, stay-dropped, walkOf, goes-slice, goes-gave-slice, goes-dropped, ends-at, walked, walk-meets}
 use denote.Exit.{yes}
-use Rattle.wire.specs.declared.Found.{Found}
-use Rattle.wire.proofs.Found as F
-use Rattle.wire.proofs.Found.Laws as F′
+use Rattle.peers.specs.declared.Seated.{Seated}
 use Rattle.peers.specs.declared.Identity.{Identity}
 use Rattle.peers.proofs.Identity as I
 use Rattle.peers.proofs.Identity.Laws as I′
 use Rattle.peers.specs.declared.Slot.{Slot}
+use Rattle.peers.proofs.Seated as F
+use Rattle.peers.proofs.Seated.Laws as F′
 use Rattle.peers.proofs.Slot as S
 use Rattle.peers.proofs.Slot.Laws as S′
 use Rattle.peers.proofs.Want as N
@@ -148,16 +148,16 @@ module _ {M : Type 1} (𝓤 : URA M) (H : Heap 𝓤) (A : Atoms 𝓤) (W : Given
   abbrev core-lfts : Lfts 3
   core-lfts = (κs .1 .0, (κs .1 .1 .0, (κs .1 .1 .1 .0, tt)))
 
-  abbrev core-args : Found → Args core.signature core-lfts
+  abbrev core-args : Seated → Args core.signature core-lfts
   core-args = λ own. (list, (st, (ys, (ts, (who, (bonded, (own, tt)))))))
 
-  abbrev to-core : Found → Known 𝓤 H A core.ended (core.clauses 𝓤 H A mem run) .Ghost
+  abbrev to-core : Seated → Known 𝓤 H A core.ended (core.clauses 𝓤 H A mem run) .Ghost
   to-core = λ own. ((core-lfts, (qs .1 .0, (qs .1 .1 .0, (qs .1 .1 .1 .0, tt))), tt, core-args own, (sliceVal (list .ptr) (length (list .now)) ∷ [], (sliceVal (st .ptr) (length (st .now)) ∷ [], (row-low ys ∷ [], (sliceVal (ts .ptr) (length (ts .now)) ∷ [], (I′.lowered who ∷ [], (vint w8 bonded ∷ [], (F′.lowered own ∷ [], tt)))))))), tt)
 
   abbrev Giving : Item 𝓤
   Giving = ‵ (flft (κs .1 .0) (qs .1 .0)) ⊛ ‵ (flft (κs .1 .1 .0) (qs .1 .1 .0)) ⊛ ‵ (flft (κs .1 .1 .1 .0) (qs .1 .1 .1 .0)) ⊛ ‵ (ShrSlice (named 0) (κs .1 .0) (Array u8 32) .own list (sliceVal (list .ptr) (length (list .now)) ∷ [])) ⊛ ‵ (ShrSlice (named 1) (κs .1 .1 .0) u8 .own st (sliceVal (st .ptr) (length (st .now)) ∷ [])) ⊛ ‵ (MutSlice (named 2) (κs .1 .1 .1 .0) (Array u8 640) .own ts (sliceVal (ts .ptr) (length (ts .now)) ∷ []))
 
-  goes-core : (own : Found) → own ≡ walk Own ys who → Is Row ys (row-low ys ∷ []) → Is I.the-row who (I′.lowered who ∷ []) → Is u8 bonded (vint w8 bonded ∷ []) → Is F.the-row own (F′.lowered own ∷ []) → ent 𝓤 (mean 𝓤 H A Giving) (Known 𝓤 H A core.ended (core.clauses 𝓤 H A mem run) .pre (to-core own))
+  goes-core : (own : Seated) → own ≡ walk Own ys who → Is Row ys (row-low ys ∷ []) → Is I.the-row who (I′.lowered who ∷ []) → Is u8 bonded (vint w8 bonded ∷ []) → Is F.the-row own (F′.lowered own ∷ []) → ent 𝓤 (mean 𝓤 H A Giving) (Known 𝓤 H A core.ended (core.clauses 𝓤 H A mem run) .pre (to-core own))
   goes-core own asked is-row is-who is-bonded is-own =
       qed W (Giving ∷ []) ∵ split ! $ move ! (1 ∷ []) $ split ! $ move ! (1 ∷ []) $ split ! $ move ! (1 ∷ []) $ split ! $ move ! (1 ∷ []) $ split ! $
       use0 W (raw (core.clauses 𝓤 H A mem run core-lfts (core-args own) .requires tt)) (factI 𝓤 (own ≡ walk Own ys who) (emp 𝓤) asked) $

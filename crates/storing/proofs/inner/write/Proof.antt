@@ -11,6 +11,7 @@ use Rattle.attribute.specs.Record.{attributeOf}
 use Rattle.attribute.specs.Lookup.{placeOf}
 use Rattle.attribute.specs.Needs.{mayWrite}
 use Rattle.attribute.specs.declared.Attribute.{Attribute}
+use Rattle.attribute.proofs.Reading.{one-access}
 use Rattle.attribute_walk.proofs.Halves.{ascending}
 use Rattle.model.proofs.Leaving.{listed}
 use Rattle.storing.proofs.Writing.{not-listed, not-met, met}
@@ -34,7 +35,7 @@ told : (c : tie.After-may-write) →
     mayWrite (attributeOf (getD (now (at-start .args .list)) (at-i .i .given .0 .0) [])) (at-start .args .link) ≡ c .may-write .result
 told c =
     let at-start = c .before .before .before .before .before .before .before .before .before .before in
-    ap (λ (a : Attribute). mayWrite a (at-start .args .link)) (sym (c .before .decode .ensures)) ∙ sym (c .may-write .ensures)
+    ap (λ (a : Attribute). mayWrite a (at-start .args .link)) (sym (c .before .decode .ensures)) ∙ sym (one-access (c .may-write .result) _ (c .may-write .ensures))
 
 find-listed-requires : tie.Need-find-listed-requires
 find-listed-requires c κs =

@@ -1,4 +1,5 @@
 -- `values::inner::locate_at` meets its contract. The link may read it, or it may not: a law for each. Assumes nothing.
+use Rattle.attribute.proofs.Reading.{one-access}
 use Rattle.values.proofs.Ways.{may, may-not}
 use mathlib.Core.Path.{sym, _∙_}
 use borrow.Author.Needs.{needs}
@@ -31,13 +32,13 @@ returns c =
     let at-may-read = c .before .before .before in
     let at-decode = at-may-read .before in
     c .locate-value .ensures ∙ may _ _ _
-    (rw (← at-decode .decode .ensures) (sym (at-may-read .may-read .ensures) ∙ c .before .enum-told .given .1))
+    (rw (← at-decode .decode .ensures) (sym (one-access (at-may-read .may-read .result) _ (at-may-read .may-read .ensures)) ∙ c .before .enum-told .given .1))
 
 returns-2 : tie.Need-returns-2
 returns-2 c =
     let at-may-read = c .before .before .before in
     let at-decode = at-may-read .before in
-    may-not _ _ _ _ (rw (← at-decode .decode .ensures) (sym (at-may-read .may-read .ensures) ∙ c .before .code .given .1))
+    may-not _ _ _ _ (rw (← at-decode .decode .ensures) (sym (one-access (at-may-read .may-read .result) _ (at-may-read .may-read .ensures)) ∙ c .before .code .given .1))
 
 pub locate-at-spec : {M : Type 1} → statement M
 locate-at-spec =
