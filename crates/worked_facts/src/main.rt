@@ -32,10 +32,14 @@ fn say_key(t: &Table, key: Key) {
     say_value(t, table_view::get(t, key));
 }
 
-fn print(raw: &[u8]) {
+fn say_lines(raw: &[u8]) {
     let mut text = [0u8; TEXT_SIZE];
     let n = table_printer::write_lines(raw, &mut text);
     say(parts::front(&text, n));
+}
+
+fn print(t: &Table) {
+    say_lines(t);
 }
 
 // What a write of d to key 5 of a copy of the table answers, and what 5 reads then.
@@ -130,11 +134,11 @@ fn printer_facts() {
     client_att_table::clear(&mut t);
     print(&t);
     let short = [0u8; 3];
-    print(&short);
+    say_lines(&short);
     let longest = [0u8; 65536];
-    print(&longest);
+    say_lines(&longest);
     let longer = [0u8; 65537];
-    print(&longer);
+    say_lines(&longer);
 }
 
 fn main() {
