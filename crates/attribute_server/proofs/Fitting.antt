@@ -1,8 +1,8 @@
 -- Every response, value and exported table that is told has at most as many bytes as the buffer that was lent. Assumes
 -- nothing.
-use mathlib.Core.Path.{_≡_, refl, subst}
+use mathlib.Core.Path.{_≡_, refl, sym, subst}
 use mathlib.Core.Bool.{Bool, true, false}
-use mathlib.Core.List.{[]}
+use mathlib.Core.List.{List, []}
 use Prim.Native.Nat.{ℕ, _+_, _≤_, _<_}
 use native.Mathlib.Omega.{arith}
 use lib.ListN.{length, getD, length-take}
@@ -21,11 +21,13 @@ use Rattle.state.specs.Valid.{valid, validWith}
 use Rattle.state.proofs.Keeping.{eight-slots}
 use Rattle.model.specs.Value.{Contents, Bytes, Code, readOf}
 use Rattle.model.specs.View.{ownTable}
-use Rattle.model.specs.Told.{Fits}
+use Rattle.model.specs.Told.{front, Fits, Answered}
+use Rattle.model.specs.declared.Answer.the-variants.{Value}
 use Rattle.model.specs.declared.Request.{Request}
 use Rattle.model.specs.declared.Request.the-variants as request
 use Rattle.model.specs.declared.Change.the-variants.{PrepareWrite}
 use Rattle.model.proofs.Fitting.{told-fits}
+use Rattle.model.proofs.Telling.{front-length}
 use Rattle.application.specs.Calls.{gotTold, fetchTold, tableTold}
 use Rattle.requests.specs.Fits.{RequestFits}
 use Rattle.admission.specs.Admission.{admissionBy, isBadBuffer, toldIf}
@@ -74,3 +76,9 @@ module _ (s : State) (who : Identity) where
       by : valid s ≡ true → (f : Found) → slotOf (s .row) who ≡ f → Fits (tableTold (s .tables) f) tableBytes
       by v (At k) e = omega (arith, sized k (omega (arith, slot-inside (s .row) who k e, eight-slots s v)))
       by v Nothing e = tt
+
+-- a count past the buffer meets no promise
+pub count-fits : (old new : List ℕ) (n : ℕ) (t : Told) → Answered old new (Value n) t → n ≤ length old
+count-fits old new n t a =
+    let k : length (front n new) ≤ length old = subst (λ (x : Told). Fits x (length old)) (sym (a .told)) (a .fits) in
+    omega (arith, front-length n new, k)
