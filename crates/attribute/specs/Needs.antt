@@ -17,7 +17,7 @@ use Rattle.attribute.specs.declared.Access.the-variants.{Granted, Denied
 use Rattle.wire.specs.declared.Found.{Found}
 use Rattle.wire.specs.declared.Found.the-variants.{At, Nothing}
 
--- what an access tells
+-- what an access tells: done where the link meets the need, else the ATT code that says why not
 abbrev pub toldAccess : Access → Told
 toldAccess Granted = done
 toldAccess (Denied c) = att c
@@ -37,21 +37,12 @@ accessOf link never need =
     (cond (eqb need 0) (Denied never)
     (cond (leb need (levelOf link)) Granted (cond (eqb need 2) (Denied 0x0F) (Denied 0x05))))
 
-abbrev pub accessTold : Link → ℕ → ℕ → Told
-accessTold link never need = toldAccess (accessOf link never need)
-
 -- reading and writing
 abbrev pub mayRead : Attribute → Link → Access
 mayRead a link = accessOf link 0x02 (a .reads)
 
-abbrev pub mayReadTold : Attribute → Link → Told
-mayReadTold a link = toldAccess (mayRead a link)
-
 abbrev pub mayWrite : Attribute → Link → Access
 mayWrite a link = accessOf link 0x03 (a .writes)
-
-abbrev pub mayWriteTold : Attribute → Link → Told
-mayWriteTold a link = toldAccess (mayWrite a link)
 
 -- what a link wishes to do
 abbrev pub mayDo : Wish → Attribute → Link → Access
@@ -65,6 +56,16 @@ accessAt wish list link (At i) = mayDo wish (attributeOf (getD list i [])) link
 
 abbrev pub canDo : Wish → List (List ℕ) → Link → ℕ → Access
 canDo wish list link h = accessAt wish list link (placeOf list h)
+
+-- what a call that asks for each of these tells
+abbrev pub accessTold : Link → ℕ → ℕ → Told
+accessTold link never need = toldAccess (accessOf link never need)
+
+abbrev pub mayReadTold : Attribute → Link → Told
+mayReadTold a link = toldAccess (mayRead a link)
+
+abbrev pub mayWriteTold : Attribute → Link → Told
+mayWriteTold a link = toldAccess (mayWrite a link)
 
 abbrev pub canDoTold : Wish → List (List ℕ) → Link → ℕ → Told
 canDoTold wish list link h = toldAccess (canDo wish list link h)

@@ -70,12 +70,12 @@ unfolding left
 left-unbonded s bonded h = rw h
 
 -- a slot found is the place that the plain walk found; and none is none
-pub seat-place : (f : Found) (k : Seat) → seatedAt f ≡ At k → f ≡ found.At (k .0)
+seat-place : (f : Found) (k : Seat) → seatedAt f ≡ At k → f ≡ found.At (k .0)
 unfolding seatedAt
 seat-place (found.At i) k e = cc
 seat-place found.Nothing k e = let z : _≡_ {A = ℕ} 0 1 = cc in absurd (omega arith)
 
-pub no-seat : (f : Found) → seatedAt f ≡ Nothing → f ≡ found.Nothing
+no-seat : (f : Found) → seatedAt f ≡ Nothing → f ≡ found.Nothing
 unfolding seatedAt
 no-seat (found.At i) e = let z : _≡_ {A = ℕ} 0 1 = cc in absurd (omega arith)
 no-seat found.Nothing e = refl
