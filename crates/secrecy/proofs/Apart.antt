@@ -10,15 +10,15 @@ use lib.ListN.{length, getD, set}
 use lib.Dec.{eqb}
 use borrow.Author.Tests.{eqb-true, eqb-false}
 use Rattle.wire.specs.Test.{both}
-use Rattle.wire.specs.declared.Found.the-variants.{At}
-use Rattle.wire.proofs.Walk.{placed}
 use Rattle.peers.specs.Identity.{sameId, isEmpty}
 use Rattle.peers.specs.Slots.{matches, wanted, slotOf, taken, connecting, nobody, left, leaving, noSlot}
+use Rattle.peers.specs.declared.Seat.{Seat}
+use Rattle.peers.specs.declared.Seated.the-variants.{At}
 use Rattle.peers.specs.declared.Identity.{Identity}
 use Rattle.peers.specs.declared.Slot.{Slot}
 use Rattle.peers.specs.declared.Move.{Move}
 use Rattle.peers.specs.declared.Want.the-variants.{Usable, Free}
-use Rattle.peers.proofs.Laws.{matches-same, wanted-free, usable-own-or-empty, slot-inside}
+use Rattle.peers.proofs.Laws.{matches-same, wanted-free, usable-own-or-empty, walk-placed, slot-inside}
 use Rattle.peers.proofs.Moves.{by-joining, by-leaving}
 use Rattle.peers.proofs.Changes.{OnlyAt, moved-only, new-slot, row-stays, kept-tables, table-set}
 use Rattle.peers.proofs.Identities.{not-both, somebody-else, nobody-empty}
@@ -97,30 +97,30 @@ module _ (t who : Identity) (some : isEmpty t ≡ false) (other : sameId who t �
     unfolding both
     connect-apart =
         by-joining (s .row) who (SparedBy t true s)
-        (λ i e.
-        let w = placed (wanted Usable who) noSlot (s .row) 0 i e in
+        (λ k e.
+        let w = walk-placed (s .row) who Usable k e in
         move-apart t true s _ (w .inside) taken-not (λ m f. true≢false (sym m ∙ usable-not _ (w .passes))))
-        (λ i u e.
-        let w = placed (wanted Free who) noSlot (s .row) 0 i e in
+        (λ k u e.
+        let w = walk-placed (s .row) who Free k e in
         move-apart t true s _ (w .inside) taken-not (λ m f. true≢false (sym (w .passes) ∙ wanted-free who _ ∙ f)))
         (no-move t true s _ (omega arith) refl)
 
     disconnect-apart : (bonded : Bool) → SparedBy t false s (leaving (s .row) who bonded)
     disconnect-apart bonded =
         by-leaving (s .row) who bonded (SparedBy t false s)
-        (λ i e.
-        let own = found-own (s .row) who i e in
-        move-apart t false s _ (slot-inside (s .row) who i e) (left-not bonded _ own) (λ m f. true≢false (sym m ∙ own-not _ own)))
+        (λ k e.
+        let own = found-own (s .row) who k e in
+        move-apart t false s _ (slot-inside (s .row) who k e) (left-not bonded _ own) (λ m f. true≢false (sym m ∙ own-not _ own)))
         (no-move t false s _ (omega arith) refl)
 
     -- a call of the table in who's slot
     abbrev Spares : List (List ℕ) → Type 0
     Spares ts = (list : List (List ℕ)) (store : List ℕ) → Spared t false s (state list store (s .row) ts)
 
-    table-apart : (i : ℕ) → slotOf (s .row) who ≡ At i → (x : List ℕ) → Spares (set (s .tables) i x)
-    table-apart i e x list store =
-        let not-own = own-not (getD (s .row) i noSlot) (found-own (s .row) who i e) in
-        at-one t false s i (state list store (s .row) (set (s .tables) i x)) (table-set i (s .row) (s .tables) x) not-own (λ m f. true≢false (sym m ∙ not-own))
+    table-apart : (k : Seat) → slotOf (s .row) who ≡ At k → (x : List ℕ) → Spares (set (s .tables) (k .0) x)
+    table-apart k e x list store =
+        let not-own = own-not (getD (s .row) (k .0) noSlot) (found-own (s .row) who k e) in
+        at-one t false s (k .0) (state list store (s .row) (set (s .tables) (k .0) x)) (table-set (k .0) (s .row) (s .tables) x) not-own (λ m f. true≢false (sym m ∙ not-own))
 
     restore-apart : (saved : List ℕ) → Spares (restored (s .tables) (slotOf (s .row) who) saved)
     restore-apart = tables-restored s (slotOf (s .row) who) Spares (stays t false s) (λ k e c. table-apart k e _)

@@ -10,19 +10,19 @@ use lib.Dec.{eqb}
 use lib.ListN.{length, getD, set}
 use lib.Seq.{getD-set-same}
 use borrow.Author.Tests.{eqb-true, eqb-false}
-use Rattle.wire.specs.declared.Found.the-variants.{At}
-use Rattle.wire.proofs.Walk.{placed}
 use Rattle.table_view.specs.View.{view}
 use Rattle.table_view.specs.Rules.{accepts}
 use Rattle.client_att_table.specs.AsList.{TableCall, bytesAfter, listAfter}
 use Rattle.client_att_table.proofs.AsList.{call-list}
 use Rattle.peers.specs.Identity.{isEmpty}
 use Rattle.peers.specs.Slots.{matches, wanted, slotOf, taken, connecting, left, leaving, rowMoved, tablesMoved, noSlot}
+use Rattle.peers.specs.declared.Seat.{Seat}
+use Rattle.peers.specs.declared.Seated.the-variants.{At}
 use Rattle.peers.specs.declared.Identity.{Identity}
 use Rattle.peers.specs.declared.Slot.{Slot}
 use Rattle.peers.specs.declared.Move.{Move}
 use Rattle.peers.specs.declared.Want.the-variants.{Usable, Free}
-use Rattle.peers.proofs.Laws.{matches-same, usable-own-or-empty, walk-inside, slot-inside}
+use Rattle.peers.proofs.Laws.{matches-same, usable-own-or-empty, walk-placed, walk-inside, slot-inside}
 use Rattle.peers.proofs.Moves.{by-joining, by-leaving}
 use Rattle.peers.proofs.Changes.{OnlyAt, moved-only, new-slot, row-stays, clear-table, kept-tables, table-set}
 use Rattle.peers.proofs.Identities.{same-is}
@@ -113,19 +113,19 @@ module _ (t : Identity) (a : State) (store : List ℕ) (ts : List (List ℕ)) (x
   pub connect-same : (who : Identity) → MoveSame (connecting (a .row) who)
   connect-same who =
       by-joining (a .row) who MoveSame
-      (λ i e.
-      let w = placed (wanted Usable who) noSlot (a .row) 0 i e in
-      owned-same _ refl (w .inside) (usable-same who i (w .inside) (w .passes)))
-      (λ i u e. emptied-same _ refl (walk-inside (a .row) who Free i e))
+      (λ at e.
+      let w = walk-placed (a .row) who Usable at e in
+      owned-same _ refl (w .inside) (usable-same who (at .0) (w .inside) (w .passes)))
+      (λ at u e. emptied-same _ refl (walk-inside (a .row) who Free at e))
       (stay-same _ refl (omega arith))
 
   -- leaving
-  left-same : (who : Identity) (bonded : Bool) (i : ℕ) → slotOf (a .row) who ≡ At i → MoveSame (record { place = i; slot = left bonded (getD (a .row) i noSlot); clears = not bonded; full = false })
+  left-same : (who : Identity) (bonded : Bool) (at : Seat) → slotOf (a .row) who ≡ At at → MoveSame (record { place = at .0; slot = left bonded (getD (a .row) (at .0) noSlot); clears = not bonded; full = false })
   unfolding left
-  left-same who true i e =
-      let s = getD (a .row) i noSlot in
-      owned-same _ refl (slot-inside (a .row) who i e) (λ o. k i (matches-same t s ∙ sym (matches-same t (record { id = s .id; connected = 0 })) ∙ o))
-  left-same who false i e = emptied-same _ refl (slot-inside (a .row) who i e)
+  left-same who true at e =
+      let s = getD (a .row) (at .0) noSlot in
+      owned-same _ refl (slot-inside (a .row) who at e) (λ o. k (at .0) (matches-same t s ∙ sym (matches-same t (record { id = s .id; connected = 0 })) ∙ o))
+  left-same who false at e = emptied-same _ refl (slot-inside (a .row) who at e)
 
   pub disconnect-same : (who : Identity) (bonded : Bool) → MoveSame (leaving (a .row) who bonded)
   disconnect-same who bonded = by-leaving (a .row) who bonded MoveSame (left-same who bonded) (stay-same _ refl (omega arith))

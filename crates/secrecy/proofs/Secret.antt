@@ -5,8 +5,6 @@ use mathlib.Core.List.{List, [], _∷_, _++_}
 use Rattle.wire.specs.Run.{afterAll}
 use Prim.Native.Nat.{ℕ, _<_}
 use lib.ListN.{length, getD}
-use Rattle.wire.specs.declared.Found.{Found}
-use Rattle.wire.specs.declared.Found.the-variants.{At, Nothing}
 use Rattle.wire.proofs.Tests.{both-l, both-r, both-true}
 use Rattle.table_view.specs.Told.{Told}
 use Rattle.table_view.specs.View.{view}
@@ -15,6 +13,8 @@ use Rattle.attribute.specs.declared.Access.{Access}
 use Rattle.attribute.specs.declared.Access.the-variants.{Granted, Denied}
 use Rattle.peers.specs.Identity.{sameId}
 use Rattle.peers.specs.Slots.{slotOf}
+use Rattle.peers.specs.declared.Seated.{Seated}
+use Rattle.peers.specs.declared.Seated.the-variants.{At, Nothing}
 use Rattle.peers.specs.declared.Identity.{Identity}
 use Rattle.state.specs.State.{State}
 use Rattle.state.proofs.Keeping.{right-list}
@@ -58,9 +58,9 @@ module _ (t : Identity) (may : ℕ → Bool) (a b : Hub) (x : Valid a) (y : Vali
   unfolding tableAt
   own-same = rw (← g .state .row) (by (slotOf (s .row) t) refl)
     where
-      by : (f : Found) → slotOf (s .row) t ≡ f → view (tableAt (s .tables) f) ≡ view (tableAt (z .tables) f)
+      by : (f : Seated) → slotOf (s .row) t ≡ f → view (tableAt (s .tables) f) ≡ view (tableAt (z .tables) f)
       by Nothing e = refl
-      by (At k) e = g .state .kept k (found-own (s .row) t k e)
+      by (At k) e = g .state .kept (k .0) (found-own (s .row) t k e)
 
   module _ (q : Asked) (reach : (need : ℕ) → accessOf (q .level) 0x02 need ≡ Granted → may need ≡ true) where
     alike : (i : ℕ) → i < length (s .list) → Alike (q .level) (getD (s .list) i []) (s .store) (z .store) (ownTable (s .row) (s .tables) t) (ownTable (z .row) (z .tables) t) own-same

@@ -7,14 +7,15 @@ use Prim.Native.Nat.{ℕ, _<_}
 use lib.Dec.{eqb}
 use lib.ListN.{length, getD, set}
 use borrow.Author.Tests.{eqb-true, eqb-false}
-use Rattle.wire.specs.declared.Found.{Found}
-use Rattle.wire.specs.declared.Found.the-variants.{At}
 use Rattle.client_att_table.specs.AsList.{TableCall, bytesAfter, itemAfter}
 use Rattle.attribute.specs.Record.{Entry, entryOf, attributeOf}
 use Rattle.attribute.specs.Lookup.{placeOf}
 use Rattle.attribute.specs.Rules.{listOk}
 use Rattle.attribute.specs.declared.Link.{Link}
 use Rattle.peers.specs.Slots.{slotOf}
+use Rattle.peers.specs.declared.Seat.{Seat}
+use Rattle.peers.specs.declared.Seated.{Seated}
+use Rattle.peers.specs.declared.Seated.the-variants.{At}
 use Rattle.peers.specs.declared.Identity.{Identity}
 use Rattle.peers.proofs.Laws.{slot-inside}
 use Rattle.state.specs.State.{State, withTables}
@@ -44,12 +45,12 @@ module _ (t : Identity) (may : ℕ → Bool) (a : State) (store : List ℕ) (ts 
   abbrev b : State
   b = beside a store ts
 
-  abbrev slot : Found
+  abbrev slot : Seated
   slot = slotOf (a .row) who
 
   -- a call of the table in the slot of a peer
-  at-slot : (k : ℕ) → slot ≡ At k → (c : TableCall) → SameKept t (a .row) (set (a .tables) k (bytesAfter (getD (a .tables) k []) c)) (set ts k (bytesAfter (getD ts k []) c))
-  at-slot k e c = call-same t a store ts x y (same .kept) k (slot-inside (a .row) who k e) c
+  at-slot : (k : Seat) → slot ≡ At k → (c : TableCall) → SameKept t (a .row) (set (a .tables) (k .0) (bytesAfter (getD (a .tables) (k .0) []) c)) (set ts (k .0) (bytesAfter (getD ts (k .0) []) c))
+  at-slot k e c = call-same t a store ts x y (same .kept) (k .0) (slot-inside (a .row) who k e) c
 
   -- `set_client_att_table`
   pub restored-same : (saved : List ℕ) → AgreeOn t may (withTables a (restored (a .tables) (slotOf (a .row) who) saved)) (withTables (beside a store ts) (restored ts (slotOf (a .row) who) saved))

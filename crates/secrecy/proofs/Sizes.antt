@@ -6,8 +6,6 @@ use mathlib.Core.List.{List, [], _∷_}
 use Prim.Native.Nat.{ℕ, zero, suc, _<_}
 use lib.ListN.{length, getD, set}
 use lib.Seq.{sets, length-sets}
-use Rattle.wire.specs.declared.Found.{Found}
-use Rattle.wire.specs.declared.Found.the-variants.{At}
 use Rattle.client_att_table.specs.Clear.{cleared}
 use Rattle.client_att_table.specs.AsList.{TableCall, bytesAfter}
 use Rattle.client_att_table.proofs.Clearing.{clear-length}
@@ -16,6 +14,9 @@ use Rattle.attribute.specs.Lookup.{placeOf}
 use Rattle.attribute.specs.declared.Access.{Access}
 use Rattle.attribute.specs.declared.Access.the-variants.{Granted, Denied}
 use Rattle.attribute.specs.declared.Link.{Link}
+use Rattle.peers.specs.declared.Seat.{Seat}
+use Rattle.peers.specs.declared.Seated.{Seated}
+use Rattle.peers.specs.declared.Seated.the-variants.{At}
 use Rattle.peers.specs.declared.Slot.{Slot}
 use Rattle.peers.specs.declared.Move.{Move}
 use Rattle.state.specs.State.{State, state, withTables, afterMove}
@@ -74,9 +75,9 @@ module _ (s : State) (z : Sized s) where
       other-tables _ _
       (either (SameSizes (s .tables)) (m .clears) _ _ (set-sizes (s .tables) (m .place) (cleared (getD (s .tables) (m .place) [])) (clear-length (getD (s .tables) (m .place) []))) (λ j. refl))
 
-  module _ (slot : Found) where
-    called : (k : ℕ) → slot ≡ At k → (c : TableCall) → SameSizes (s .tables) (set (s .tables) k (bytesAfter (getD (s .tables) k []) c))
-    called k e c = set-sizes (s .tables) k _ (call-length (getD (s .tables) k []) c)
+  module _ (slot : Seated) where
+    called : (k : Seat) → slot ≡ At k → (c : TableCall) → SameSizes (s .tables) (set (s .tables) (k .0) (bytesAfter (getD (s .tables) (k .0) []) c))
+    called k e c = set-sizes (s .tables) (k .0) _ (call-length (getD (s .tables) (k .0) []) c)
 
     pub restored-sized : (saved : List ℕ) → Sized (withTables s (restored (s .tables) slot saved))
     restored-sized saved =

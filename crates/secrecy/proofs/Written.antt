@@ -6,11 +6,11 @@ use mathlib.Core.Bool.{false}
 use mathlib.Core.List.{List}
 use native.Mathlib.Omega.{arith}
 use lib.ListN.{length}
-use Rattle.wire.specs.declared.Found.{Found}
 use Rattle.attribute.specs.Needs.{mayWrite}
 use Rattle.attribute.specs.declared.Access.the-variants.{Granted}
 use Rattle.attribute.specs.declared.Link.{Link}
 use Rattle.peers.specs.Slots.{slotOf}
+use Rattle.peers.specs.declared.Seated.{Seated}
 use Rattle.peers.specs.declared.Identity.{Identity}
 use Rattle.peers.specs.declared.Slot.{Slot}
 use Rattle.state.specs.State.{State, state}
@@ -43,7 +43,7 @@ module _ (x : Hub) (v : Valid x) (i : ℕ) (l : i < length (x .state .list)) whe
   left d s′ new = left-either Same d s s′ (untouched (s .row) (s .tables)) new
 
   -- a link that may not write there: what it writes goes to a place whose need is met, so elsewhere
-  module _ (link : Link) (not : isGranted (mayWrite (attributeAt s i) link) ≡ false) (slot : Found) where
+  module _ (link : Link) (not : isGranted (mayWrite (attributeAt s i) link) ≡ false) (slot : Seated) where
     elsewhere : (j : ℕ) → mayWrite (attributeAt s j) link ≡ Granted → i ≡ j → ⊥
     elsewhere j e p =
         let q = rw (p, e) at not in
