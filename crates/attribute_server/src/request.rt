@@ -6,7 +6,7 @@ ghost use Rattle.state.specs.State.{lent, waiting};
 ghost use Rattle.requests.specs.Slot.{givenSlot};
 ghost use Rattle.attribute_server.specs.Request.{query, Processed};
 use admission::Admission;
-use admission::admit_request;
+use admission::request::admit_request;
 use attribute::Link;
 use model::Request;
 use peers::Identity;

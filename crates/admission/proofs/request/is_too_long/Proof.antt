@@ -1,8 +1,8 @@
--- `admission::is_too_long` meets its contract. By cases; each test computes. Assumes nothing.
+-- `admission::request::is_too_long` meets its contract. By cases; each test computes. Assumes nothing.
 use mathlib.Core.Path.{_∙_}
 use borrow.Author.Needs.{needs}
-use Rattle.admission.proofs.is_too_long.Statement.{statement}
-use Rattle.admission.proofs.is_too_long.Tie as tie
+use Rattle.admission.proofs.request.is_too_long.Statement.{statement}
+use Rattle.admission.proofs.request.is_too_long.Tie as tie
 
 enum-told : tie.Need-enum-told
 enum-told c = search needs

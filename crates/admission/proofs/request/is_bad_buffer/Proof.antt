@@ -1,8 +1,8 @@
--- `admission::is_bad_buffer` meets its contract. A law for each answer, in the order of the tests. Assumes nothing.
+-- `admission::request::is_bad_buffer` meets its contract. A law for each answer, in the order of the tests. Assumes nothing.
 use Rattle.admission.proofs.Admitting.{too-small, too-large, by-length}
 use mathlib.Core.Path.{_∙_}
-use Rattle.admission.proofs.is_bad_buffer.Statement.{statement}
-use Rattle.admission.proofs.is_bad_buffer.Tie as tie
+use Rattle.admission.proofs.request.is_bad_buffer.Statement.{statement}
+use Rattle.admission.proofs.request.is_bad_buffer.Tie as tie
 
 returns : tie.Need-returns
 returns c = too-small _ _ _ (c .if1 .taken)

@@ -1,7 +1,7 @@
--- `admission::is_change_too_long` meets its contract. By cases; each test computes. Assumes nothing.
+-- `admission::request::is_change_too_long` meets its contract. By cases; each test computes. Assumes nothing.
 use borrow.Author.Needs.{needs}
-use Rattle.admission.proofs.is_change_too_long.Statement.{statement}
-use Rattle.admission.proofs.is_change_too_long.Tie as tie
+use Rattle.admission.proofs.request.is_change_too_long.Statement.{statement}
+use Rattle.admission.proofs.request.is_change_too_long.Tie as tie
 
 enum-told : tie.Need-enum-told
 enum-told c = search needs
