@@ -3,7 +3,7 @@
 ghost use mathlib.Core.Path.{_≡_};
 ghost use mathlib.Core.Bool.{true, false};
 ghost use mathlib.Core.List.{[]};
-ghost use Prim.Native.Nat.{_+_, _^_, _<_};
+ghost use Prim.Native.Nat.{_+_, _<_};
 ghost use lib.ListN.{length, getD};
 ghost use lib.Dec.{ltb};
 ghost use Rattle.attribute.specs.Record.{attributeOf};
@@ -34,7 +34,6 @@ fn is_past(cap: u16, offset: usize, n: usize) -> bool
 
 // Whether n bytes go in at an offset of a value of `len` bytes that can hold `cap`: the offset comes first.
 fn rule(len: u16, cap: u16, offset: usize, n: usize) -> Access
-    requires { ⌜ n < 2 ^ 63 ⌝ }
     ensures { λ r. ⌜ r ≡ writeRule len cap offset n ⌝ }
 {
     let past = is_past(cap, offset, n);
