@@ -14,6 +14,7 @@ use Rattle.wire.proofs.Tests.{both-l, both-r, both-false-r}
 use Rattle.attribute.specs.declared.Access.{Access}
 use Rattle.attribute.specs.declared.Access.the-variants.{Granted, Denied}
 use Rattle.attribute.specs.declared.Link.{Link}
+use Rattle.peers.specs.declared.Seated.{Seated}
 use Rattle.state.specs.State.{State, Waiting, waiting}
 use Rattle.state.specs.Valid.{recordOk}
 use Rattle.state.specs.declared.Prepared.{Prepared}
@@ -25,7 +26,6 @@ use Rattle.model.specs.declared.Request.the-variants as request
 use Rattle.model.specs.declared.Change.{Change}
 use Rattle.model.specs.declared.Change.the-variants.{Write, WriteCommand, PrepareWrite, ExecuteWrite}
 use Rattle.preparing.proofs.Preparing.{granted-fits}
-use Rattle.peers.specs.declared.Seated.{Seated}
 use Rattle.attribute_server.specs.Request.{Query, waitingBy}
 use Rattle.secrecy.specs.Agree.{nothing, settled, pendingAt}
 
