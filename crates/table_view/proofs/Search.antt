@@ -1,18 +1,19 @@
--- The lookup by halves and the walk of `specs/Lookup.antt` agree on an accepted table; and what a place that is found
--- has. Assumes nothing.
+-- The straight walk and the plain one of `specs/Lookup.antt` find the same in an accepted table; and what a place that
+-- is found has. Assumes nothing.
 use mathlib.Core.Path.{_≡_, refl, sym}
 use mathlib.Core.Bool.{Bool, true, false, cond}
 use mathlib.Core.List.{List}
 use mathlib.Core.Logic.{⊎-elim}
 use Prim.Native.Nat.{ℕ, zero, suc, _+_, _≤_, _<_}
 use native.Mathlib.Omega.{arith}
-use native.Mathlib.Nat.{eq-or-lt-of-le, le-trans}
+use native.Mathlib.Nat.{eq-or-lt-of-le}
 use lib.Dec.{eqb}
-use borrow.Author.Tests.{eq-eqb, ne-eqb, eqb-true}
+use borrow.Author.Tests.{eq-eqb, ne-eqb, eqb-true, eqb-false}
 use Rattle.wire.proofs.Tests.{split}
 use Rattle.table_view.specs.Layout.{countOf, keyAt}
 use Rattle.table_view.specs.Rules.{accepts}
 use Rattle.table_view.specs.Lookup.{placeFrom, indexPlace, soughtIndex}
+use Rattle.table_view.specs.Walk.{ComesTo, StopsAt}
 use Rattle.table_view.specs.declared.Place.{Place}
 use Rattle.table_view.specs.declared.Indexed.{Indexed}
 use Rattle.table_view.specs.declared.Indexed.the-variants.{At, Nothing}
@@ -36,50 +37,70 @@ module _ (bs : List ℕ) (k : ℕ) where
   walk-none (suc n) i f =
       rw (ne-eqb _ _ (f i (omega arith))) (walk-none n (suc i) (λ j l. f j (omega arith)))
 
-  pub found : (p : ℕ) → accepts bs ≡ true → p < countOf bs → keyAt bs p ≡ k → At (record { 0 = p }) ≡ indexPlace bs k
-  unfolding indexPlace
-  found p ok h e =
-      sym (walk-at (countOf bs) 0 p (omega arith) (omega arith) e (λ j l q. let a = ascends bs ok j p l h in omega arith))
-
   -- the index holds no key of 0x8000 or more
   pub no-high-key : 32768 ≤ k → indexPlace bs k ≡ Nothing
   unfolding indexPlace
   no-high-key h = walk-none (countOf bs) 0 (λ j l e. omega arith)
 
-  -- what the halves know: keys below lo are below k, and keys from hi on above it
-  pub Below : ℕ → Type 0
-  Below lo = (j : ℕ) → j < lo → keyAt bs j < k
+  -- the straight walk: it starts, goes on past a key below k, and stops
+  pub comes-first : ComesTo bs k 0
+  comes-first = record { inside = omega arith; below = λ j l. absurd (omega arith) }
 
-  pub Above : ℕ → Type 0
-  Above hi = (j : ℕ) → hi ≤ j → j < countOf bs → k < keyAt bs j
+  pub comes-on : (i : ℕ) → ComesTo bs k i → i < countOf bs → keyAt bs i < k → ComesTo bs k (i + 1)
+  comes-on i w h l =
+      record {
+        inside = omega arith;
+        below =
+            λ j b.
+            let m : j ≤ i = omega arith in
+            ⊎-elim (λ (s : j ≡ i). rw s l) (λ (q : j < i). w .below j q) (eq-or-lt-of-le m);
+      }
 
-  pub none-below : Below 0
-  unfolding Below
-  none-below j l = absurd (omega arith)
+  -- where it stops for k, a walk for a greater key comes by
+  pub comes-by : (i k′ : ℕ) → StopsAt bs k i → k ≤ k′ → ComesTo bs k′ i
+  comes-by i k′ w h =
+      record { inside = w .comes .inside; below = λ j b. let l = w .comes .below j b in omega arith }
 
-  pub none-above : (n : ℕ) → n ≡ countOf bs → Above n
-  unfolding Above
-  none-above n e j l h = absurd (omega arith)
+  -- the key where it stops is the one that the plain walk finds, or that finds none
+  found : (p : ℕ) → StopsAt bs k p → p < countOf bs → keyAt bs p ≡ k → At (record { 0 = p }) ≡ indexPlace bs k
+  unfolding indexPlace
+  found p w h e =
+      sym (walk-at (countOf bs) 0 p (omega arith) (omega arith) e (λ j l q. let b = w .comes .below j l in omega arith))
 
-  pub up : (p : ℕ) → accepts bs ≡ true → p < countOf bs → keyAt bs p < k → Below (p + 1)
-  unfolding Below
-  up p ok h e j l =
-      let m : j ≤ p = omega arith in
-      ⊎-elim (λ (s : j ≡ p). rw s e) (λ (b : j < p). let a = ascends bs ok j p b h in omega arith) (eq-or-lt-of-le m)
-
-  pub down : (p : ℕ) → accepts bs ≡ true → p < countOf bs → k < keyAt bs p → Above p
-  unfolding Above
-  down p ok h e j l b =
-      ⊎-elim (λ (s : p ≡ j). rw (← s) e) (λ (m : p < j). let a = ascends bs ok p j m b in omega arith) (eq-or-lt-of-le l)
-
-  pub missing : (lo hi : ℕ) → hi ≤ lo → Below lo → Above hi → Nothing ≡ indexPlace bs k
-  unfolding indexPlace Below Above
-  missing lo hi le b a =
+  missing : (p : ℕ) → accepts bs ≡ true → StopsAt bs k p → (p < countOf bs → keyAt bs p ≡ k → ⊥) → Nothing ≡ indexPlace bs k
+  unfolding indexPlace
+  missing p ok w other =
       sym (walk-none (countOf bs) 0
       (λ j l e.
-      ⊎-elim (λ (s : j < lo). let q = b j s in omega arith)
-      (λ (s : lo ≤ j). let q = a j (le-trans le s) (omega arith) in omega arith)
-      (split j lo)))
+      ⊎-elim
+      (λ (s : j < p). let b = w .comes .below j s in omega arith)
+      (λ (s : p ≤ j).
+      ⊎-elim
+      (λ (q : p ≡ j). other (omega arith) (rw q e))
+      (λ (q : p < j).
+      let a = ascends bs ok p j q (omega arith) in
+      let r = w .reached (omega arith) in
+      omega arith)
+      (eq-or-lt-of-le s))
+      (split j p)))
+
+  -- it stops at a key v that is not below k, or at the index's end
+  module _ (p : Place) (ok : accepts bs ≡ true) (w : ComesTo bs k (p .0)) where
+    pub stops-at-key : (v : ℕ) → v ≡ keyAt bs (p .0) → p .0 < countOf bs → k ≤ v → StopsAt bs k (p .0) × (cond (eqb v k) (At p) Nothing ≡ indexPlace bs k)
+    stops-at-key v e h l = (s, by (eqb v k) refl)
+      where
+        s : StopsAt bs k (p .0)
+        s = record { comes = w; reached = λ i. omega arith }
+
+        by : (t : Bool) → eqb v k ≡ t → cond t (At p) Nothing ≡ indexPlace bs k
+        by true t = let q = eqb-true v k t in found (p .0) s h (omega arith)
+        by false t = missing (p .0) ok s (λ i q. eqb-false v k t (omega arith))
+
+    pub stops-at-end : countOf bs ≤ p .0 → StopsAt bs k (p .0) × (Nothing ≡ indexPlace bs k)
+    stops-at-end h = (s, missing (p .0) ok s (λ i. absurd (omega arith)))
+      where
+        s : StopsAt bs k (p .0)
+        s = record { comes = w; reached = λ i. absurd (omega arith) }
 
 -- a place that the walk finds is one of the index, and has the key
 pub record KeyPlaced (bs : List ℕ) (k i : ℕ) : Type 0 where

@@ -8,9 +8,16 @@ ghost use Rattle.wire.specs.Number.{word};
 ghost use Rattle.table_view.specs.Layout.{countOf, valuesLen, baseOf, endOf, keyAt, varAt, offAt, nextAt, headAt, startAt, capAt, lenAt, valueAt};
 ghost use Rattle.table_view.specs.Rules.{indexEntryOk, indexOk, valueOk, valuesOk, accepts};
 ghost use Rattle.table_view.specs.Lookup.{indexPlace};
+ghost use Rattle.table_view.specs.Walk.{ComesTo, StopsAt, foundBy};
 use crate::Indexed;
 use crate::Key;
 use crate::Place;
+
+// Where a walk for a key stopped, and whether the key stands there.
+pub struct Stop {
+    pub place: Place,
+    pub hit: bool,
+}
 
 // A number of the table. Its bound serves the sums that follow.
 pub fn number(t: &[u8], at: usize) -> usize
@@ -205,27 +212,51 @@ pub fn is_table(raw: &[u8]) -> bool
     values_ok(raw)
 }
 
-// The place of a key in the index, by halves. A key of 0x8000 or more has none: the index holds keys without their
-// flag.
+// The straight walk for a key: from a place that it comes to, on to the first key that is not below it, or to the end
+// of the index. It steps before it tests, which takes less code.
+pub fn walk_from(t: &[u8], key: Key, from: Place) -> Stop
+    requires { ⌜ accepts (now t) ≡ true ⌝ }
+    requires { ⌜ ComesTo (now t) (key .0) (from .0) ⌝ }
+    ensures { λ r. ⌜ StopsAt (now (t .entry)) (key .0) (r .place .0) × (foundBy r ≡ indexPlace (now (t .entry)) (key .0)) ⌝ }
+{
+    let n = number(t, 0);
+    let mut next = from;
+    while next.0 < n {
+        let p = next;
+        let k = key_at(t, p);
+        next = Place(p.0 + 1);
+        if key.0 <= k.0 {
+            return Stop {
+                place: p,
+                hit: k.0 == key.0,
+            };
+        }
+    }
+    Stop {
+        place: next,
+        hit: false,
+    }
+}
+
+// What a walk has found where it stopped.
+pub fn found_by(s: Stop) -> Indexed
+    ensures { λ r. ⌜ r ≡ foundBy s ⌝ }
+{
+    let p = s.place;
+    if s.hit {
+        Indexed::At(p)
+    } else {
+        Indexed::Nothing
+    }
+}
+
+// The place of a key in the index. A key of 0x8000 or more has none: the index holds keys without their flag.
 pub fn find(t: &[u8], key: Key) -> Indexed
     requires { ⌜ accepts (now t) ≡ true ⌝ }
     ensures { λ r. ⌜ r ≡ indexPlace (now (t .entry)) (key .0) ⌝ }
 {
-    let mut lo = 0;
-    let mut hi = number(t, 0);
-    while lo < hi {
-        let mid = lo + (hi - lo) / 2;
-        let k = key_at(t, Place(mid));
-        if k.0 == key.0 {
-            return Indexed::At(Place(mid));
-        }
-        if k.0 < key.0 {
-            lo = mid + 1;
-        } else {
-            hi = mid;
-        }
-    }
-    Indexed::Nothing
+    let s = walk_from(t, key, Place(0));
+    found_by(s)
 }
 
 // The value at a place.
