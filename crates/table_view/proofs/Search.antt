@@ -20,7 +20,7 @@ use Rattle.table_view.specs.declared.Indexed.the-variants.{At, Nothing}
 use Rattle.table_view.proofs.Shape.{ascends}
 
 module _ (bs : List ℕ) (k : ℕ) where
-  -- the walk comes to p first
+  -- the plain walk comes to p first
   walk-at : (n i p : ℕ) → i ≤ p → p < i + n → keyAt bs p ≡ k → ((j : ℕ) → j < p → keyAt bs j ≡ k → ⊥) → placeFrom bs k n i ≡ At (record { 0 = p })
   unfolding placeFrom
   walk-at zero i p a b e f = absurd (omega arith)
@@ -30,7 +30,7 @@ module _ (bs : List ℕ) (k : ℕ) where
       (λ (l : i < p). rw (ne-eqb _ _ (f i l)) (walk-at n (suc i) p l (omega arith) e f))
       (eq-or-lt-of-le a)
 
-  -- the walk comes to none
+  -- the plain walk comes to none
   walk-none : (n i : ℕ) → ((j : ℕ) → j < i + n → keyAt bs j ≡ k → ⊥) → placeFrom bs k n i ≡ Nothing
   unfolding placeFrom
   walk-none zero i f = refl
@@ -61,7 +61,7 @@ module _ (bs : List ℕ) (k : ℕ) where
   comes-by i k′ w h =
       record { inside = w .comes .inside; below = λ j b. let l = w .comes .below j b in omega arith }
 
-  -- the key where it stops is the one that the plain walk finds, or that finds none
+  -- where it stops, the plain walk finds the key, or it finds none
   found : (p : ℕ) → StopsAt bs k p → p < countOf bs → keyAt bs p ≡ k → At (record { 0 = p }) ≡ indexPlace bs k
   unfolding indexPlace
   found p w h e =
@@ -102,7 +102,7 @@ module _ (bs : List ℕ) (k : ℕ) where
         s : StopsAt bs k (p .0)
         s = record { comes = w; reached = λ i. absurd (omega arith) }
 
--- a place that the walk finds is one of the index, and has the key
+-- a place that the plain walk finds is one of the index, and has the key
 pub record KeyPlaced (bs : List ℕ) (k i : ℕ) : Type 0 where
   pub inside : i < countOf bs
   pub key : keyAt bs i ≡ k

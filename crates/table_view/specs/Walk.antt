@@ -1,4 +1,4 @@
--- The straight walk for a key, over an index whose keys ascend: where it comes by, where it stops, and what it has found.
+-- The straight walk for a key, over an index whose keys ascend: where it comes by, where it stops, what it has found.
 -- For inner contracts; what a lookup tells is in `Lookup`. Assumes nothing.
 use Prim.Native.Nat.{ℕ, _≤_, _<_}
 use mathlib.Core.Bool.{cond}
