@@ -22,8 +22,12 @@ pub struct Entry {
     pub value: Vec<u8>,
 }
 
-/// The hub of a name. A number is a list of so many attributes, eight a service; after `alike` all in one service.
+/// The hub of a name. A number is a list of so many attributes, eight a service; after `alike` all in one service. After
+/// `keys` it is how many client values there are.
 pub fn named(name: &str) -> Option<Vec<Entry>> {
+    if let Some(count) = name.strip_prefix("keys") {
+        return count.parse().ok().filter(|count| (1..=32).contains(count)).map(keys);
+    }
     if let Some(count) = name.strip_prefix("alike") {
         return count.parse().ok().filter(|count| (8..=64).contains(count)).map(alike);
     }
@@ -97,6 +101,15 @@ fn alike(count: usize) -> Vec<Entry> {
         subscription(),
     ];
     list.resize(count, shared(ALIKE, false, 1, &[7]));
+    list
+}
+
+/// 64 attributes, the last of them so many client values: looking a handle up in the list costs the same for any number of
+/// these, so that what grows is the lookup in a table.
+fn keys(count: usize) -> Vec<Entry> {
+    let mut list = vec![service(0xFF00)];
+    list.resize(64 - count, shared(0xFE01, false, 1, &[7]));
+    list.resize(64, client(0xFE02, 8));
     list
 }
 

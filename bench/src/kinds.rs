@@ -9,20 +9,23 @@ type Calls = Vec<(Call, Waiting)>;
 /// A kind: its name and its calls.
 type Kind = (&'static str, Calls);
 
-/// A kind's name and its steps, one run for each tablet.
+/// A kind's name and its steps, one run for each tablet. A list without subscriptions is there for the lookup in a table.
 pub fn all(list: &[Entry]) -> Vec<(&'static str, Vec<Step>)> {
-    let mut kinds = discovery();
-    if list.iter().any(|entry| entry.uuid == ALIKE) {
-        kinds.extend(one_group());
+    let has = |uuid| list.iter().any(|entry| entry.uuid == uuid);
+    let mut kinds = Vec::new();
+    if has(SUBSCRIPTION) {
+        kinds.extend(discovery());
+        if has(ALIKE) {
+            kinds.extend(one_group());
+        }
+        kinds.extend(values(list));
+        kinds.extend(application(list));
+        kinds.push(("mix", mix(list)));
+    } else {
+        kinds.extend(lookups(list));
     }
-    kinds.extend(values(list));
-    kinds.extend(application(list));
-    let mut all: Vec<_> = kinds
-        .iter()
-        .map(|(name, calls)| (*name, for_each_tablet(calls)))
-        .collect();
-    all.push(("mix", for_each_tablet(&mix(list))));
-    all
+    let steps = |(name, calls): &Kind| (*name, for_each_tablet(calls));
+    kinds.iter().map(steps).collect()
 }
 
 fn for_each_tablet(calls: &Calls) -> Vec<Step> {
@@ -104,6 +107,16 @@ fn application(list: &[Entry]) -> Vec<Kind> {
         kind("can_read", Call::CanRead { handle: shared }),
         ("leave, return", vec![(Call::Disconnect, None), (Call::Connect, None)]),
         kind("get_client_att_table", Call::SaveTable),
+        kind("set_client_att_table", Call::RestoreTable { saved: saved(list) }),
+    ]
+}
+
+/// What looks for a key in the index of a table: for the last one, which a walk comes to last, and for all.
+fn lookups(list: &[Entry]) -> Vec<Kind> {
+    let client = last_client(list);
+    vec![
+        kind("Read client", request(READ, client, 0)),
+        kind("Write client", bringing(WRITE, client, 0, &value_of(list, client))),
         kind("set_client_att_table", Call::RestoreTable { saved: saved(list) }),
     ]
 }

@@ -70,7 +70,8 @@ fn print_stack() {
 }
 
 fn usage() -> ! {
-    eprintln!("speed stack, or speed ours|refused|rust classroom|large|full|8|16|32|64|alike8|alike16|alike32|alike64");
+    eprintln!("speed stack, or speed ours|refused|rust HUB");
+    eprintln!("HUB: classroom, large, full; 8, 16, 32, 64; alike8, alike16, alike32, alike64; keys1, keys8, keys32");
     std::process::exit(2)
 }
 
