@@ -293,7 +293,7 @@ int main(void)
         0x03, 0x00, 0x00, 0x00,                   /* 3, fixed, at 0 */
         0x05, 0x80, 0x02, 0x00,                   /* 5, variable, at 2 */
         0x01, 0x00,                               /* 3 */
-        0x04, 0x00, '3',  'E',  '1', '0', '4', '7' /* 5: its length, its bytes, and two that are no longer part of it; zeros */
+        0x04, 0x00, '3',  'E',  '1', '0'          /* 5: its length, its bytes; zeros from where 47 stood */
     };
     reply = ropethatch_get_client_att_table(HUB, anna, hub.out);
     memcpy(saved, hub.out, sizeof saved);

@@ -171,7 +171,7 @@ impl Hub {
     }
 
     /// Sets a value for the application, whole. Nobody's permission is asked. A client value is the one that is kept for
-    /// `who`.
+    /// `who`; where it was longer before, zeros take the place of the rest.
     ///
     /// # Errors
     ///
@@ -211,7 +211,8 @@ impl Hub {
         answer::always(self.lent().should_indicate(who.into(), handle))
     }
 
-    /// The values that are kept for a tablet, for keeping elsewhere. `None` where the tablet has no slot.
+    /// The values that are kept for a tablet, for keeping elsewhere; nothing is left in it of values that were longer.
+    /// `None` where the tablet has no slot.
     pub fn client_table(&self, who: Identity) -> Option<SavedTable> {
         let mut out = [0; 640];
         let table = answer::always(self.lent().client_table(who.into(), &mut out));

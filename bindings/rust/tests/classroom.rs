@@ -226,6 +226,8 @@ fn values_are_kept_over_a_restart() {
     write(&mut hub, &mut ada, SUBSCRIPTION, &[2, 0]);
     let saved = hub.client_table(ada.who()).expect("ada has a slot");
     let kept = saved.as_bytes().to_vec();
+    // where the longer code stood, the export has zeros
+    assert_eq!(&kept[12..], b"\x02\x00\x04\x003E10\0\0\0\0");
 
     let mut hub = list().build().unwrap();
     let saved = SavedTable::from_bytes(kept);

@@ -59,12 +59,9 @@ fn a_fresh_table() {
 }
 
 #[test]
-fn the_dropped_tail_stays_in_the_table() {
+fn the_dropped_tail_is_zeros_in_the_table() {
     let (hub, _) = t_with_code();
-    assert_eq!(
-        table(&hub)[12..],
-        [0, 0, 4, 0, 0x33, 0x45, 0x31, 0x30, 0x34, 0x37, 0, 0]
-    );
+    assert_eq!(table(&hub)[12..], [0, 0, 4, 0, 0x33, 0x45, 0x31, 0x30, 0, 0, 0, 0]);
     assert_eq!(five(&hub), b"3E10");
 }
 

@@ -15,8 +15,9 @@ use Rattle.table_view.proofs.Answers.{read-done}
 use Rattle.table_view.proofs.Same.{raw-accepted, raw-view}
 use Rattle.client_att_table.specs.AsList.{TableCall, bytesTold, bytesAfter, listTold, listAfter}
 use Rattle.client_att_table.proofs.AsList.{raw-shown, table-is-list}
+use Rattle.client_att_table.proofs.Tails.{all-zero, tails-stay-zero}
 use Rattle.table_builder.specs.Push.{builder, buildTold, afterBuild}
-use Rattle.table_builder.proofs.Laws.{is-table}
+use Rattle.table_builder.proofs.Laws.{by-zeros, is-table}
 use Rattle.table_builder.proofs.AsList.{builder-is-list}
 use Rattle.built_tables.specs.BuilderToReader.{builderAfter, tableBuilt, tableAfter, BuilderToReader}
 
@@ -49,6 +50,7 @@ builder-to-reader there ps cs =
     let same = build-left (builderAfter ps) there (b .ok) in
     let ok = ap accepts same ∙ is-table _ (b .ok) in
     let list = ap view same ∙ b .reads in
+    let zeros = by-zeros (builderAfter ps) (is-table _ (b .ok)) ∙ b .ok in
     let out = tableAfter there ps cs in
     let kept = table-is-list (tableBuilt there ps) ok cs .ok in
     let reads = raw-view out kept ∙ calls-left _ _ ok list cs in
@@ -61,4 +63,5 @@ builder-to-reader there ps cs =
       accepted = sym (read-done _ (raw-accepted out kept));
       reads = reads;
       gets = get-of-list _ _ (raw-accepted out kept) reads;
+      tails = tails-stay-zero (tableBuilt there ps) ok (rw same (all-zero _ zeros)) cs .saved _ (raw-shown out kept);
     }

@@ -10,6 +10,7 @@ use Rattle.table_view.specs.View.{Item, view}
 use Rattle.table_view.specs.Told.{done, value}
 use Rattle.table_view.specs.Read.{readTold, valueIn, getTold, rawTold}
 use Rattle.client_att_table.specs.AsList as calling
+use Rattle.client_att_table.specs.Tails.{ZeroTails}
 use Rattle.table_builder.specs.Push.{buildTold, afterBuild}
 use Rattle.table_builder.specs.AsList as pushing
 
@@ -34,7 +35,7 @@ abbrev pub listLeft : List pushing.Push → List calling.TableCall → List Item
 listLeft ps cs = afterAll calling.listAfter (listBuilt ps) cs
 
 -- the statement: each push and each call told the same as on the list, the build is done, and what `raw` shows is
--- accepted by the reader, reads as the list, and tells by each key what the list has
+-- accepted by the reader, reads as the list, tells by each key what the list has, and has nothing past a value's length
 pub record Reads (there : List ℕ) (ps : List pushing.Push) (cs : List calling.TableCall) : Type 0 where
   pub pushes : toldAll pushing.bytesAfter pushing.bytesTold fresh ps ≡ toldAll pushing.listAfter pushing.listTold [] ps
   pub build : buildTold (builderAfter ps) ≡ done
@@ -44,6 +45,7 @@ pub record Reads (there : List ℕ) (ps : List pushing.Push) (cs : List calling.
   pub accepted : readTold saved ≡ done
   pub reads : view saved ≡ listLeft ps cs
   pub gets : (k : ℕ) → getTold saved k ≡ valueIn k (listLeft ps cs)
+  pub tails : ZeroTails saved
 
 abbrev pub BuilderToReader : Type 0
 BuilderToReader = (there : List ℕ) (ps : List pushing.Push) (cs : List calling.TableCall) → Reads there ps cs

@@ -10,7 +10,7 @@ use Rattle.table_view.specs.Rules.{indexEntryOk, indexOk, valueOk, valuesOk, ac
 use Rattle.table_view.specs.Lookup.{placeFrom, indexPlace}
 use Rattle.table_view.specs.View.{itemAt, itemsFrom}
 use Rattle.table_view.specs.Read.{readTold, getTold}
-use Rattle.client_att_table.specs.Write.{planAt, withLen, laid, writeTold, afterWrite}
+use Rattle.client_att_table.specs.Write.{planAt, withLen, laid, dropped, stored, writeTold, afterWrite}
 use Rattle.table_builder.specs.Push.{builder, lastKey, entryFits, valueSize, flagged, pushPlan, withEntry}
 use Rattle.wire.specs.Uuid.{based, wide, sameUuid}
 use Rattle.attribute.specs.Record.{attributeOf, uuidOf, entryOf}
@@ -31,6 +31,6 @@ use Rattle.model.specs.Answer.{errorRsp, valueRsp, isBadRange, firstRsp, listFr
 use Rattle.facts.specs.Facts.{none, one, FactsHold}
 
 pub facts-hold : FactsHold
-unfolding both first afterAll zeros word nextAt headAt lenAt valueAt indexEntryOk indexOk valueOk valuesOk accepts placeFrom indexPlace itemAt itemsFrom readTold getTold planAt withLen laid writeTold afterWrite builder lastKey entryFits valueSize flagged pushPlan withEntry alike based wide sameUuid attributeOf uuidOf entryOf isWithin isWanted accessOf sharedItem atValue readOf seenBy readAt run fromFirst byTypeForm lead extraOf cut valueTurn rowTurn errorRsp valueRsp isBadRange firstRsp listFrom infoFrom askRsp requestTold fieldsOk rangeOk entryOk endAfter entriesOk listOk sameId isEmpty isBad matches wanted seatedAt clientsOf freshTable spaceOf entriesSize laidOut slotOk slotsOk valid recordOk validWith placeIn admissionBy isBadBuffer tableAt
+unfolding both first afterAll zeros word nextAt headAt lenAt valueAt indexEntryOk indexOk valueOk valuesOk accepts placeFrom indexPlace itemAt itemsFrom readTold getTold planAt withLen laid dropped stored writeTold afterWrite builder lastKey entryFits valueSize flagged pushPlan withEntry alike based wide sameUuid attributeOf uuidOf entryOf isWithin isWanted accessOf sharedItem atValue readOf seenBy readAt run fromFirst byTypeForm lead extraOf cut valueTurn rowTurn errorRsp valueRsp isBadRange firstRsp listFrom infoFrom askRsp requestTold fieldsOk rangeOk entryOk endAfter entriesOk listOk sameId isEmpty isBad matches wanted seatedAt clientsOf freshTable spaceOf entriesSize laidOut slotOk slotsOk valid recordOk validWith placeIn admissionBy isBadBuffer tableAt
 facts-hold =
     one refl (one refl (one refl (one refl (one refl (one refl (one refl (one refl (one refl (one refl (one refl (one refl (one refl (one refl (one refl (one refl none)))))))))))))))

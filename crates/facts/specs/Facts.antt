@@ -37,7 +37,7 @@ pub record Fact : Type 0 where
   pub computed : Told
   pub paper : Told
 
-abbrev fact : Told → Told → Fact
+abbrev pub fact : Told → Told → Fact
 fact a b = record { computed = a; paper = b }
 
 -- a readable variable value of type 7 under a handle, with room for 20 bytes: a record of the list
@@ -51,7 +51,7 @@ class =
     ((0x41 ∷ 0x41 ∷ 0x41 ∷ 0x41 ∷ 0x41 ∷ replicate 15 0) ++ (0x42 ∷ 0x42 ∷ 0x42 ∷ 0x42 ∷ 0x42 ∷ replicate 15 0) ++ (0x43 ∷ 0x43 ∷ 0x43 ∷ 0x43 ∷ 0x43 ∷ 0x43 ∷ replicate 14 0))
 
 -- a tablet that has not connected
-abbrev tablet : Identity
+abbrev pub tablet : Identity
 tablet = record { kind = 0; addr = 1 ∷ 0 ∷ 0 ∷ 0 ∷ 0 ∷ 0xC0 ∷ [] }
 
 -- what `process` tells it there over a plain link, with a buffer of so many bytes
@@ -70,8 +70,8 @@ facts =
     -- T fresh
     fact (value T)
     (value ((0x02 ∷ 0x00 ∷ 0x0C ∷ 0x00 ∷ 0x03 ∷ 0x00 ∷ 0x00 ∷ 0x00 ∷ 0x05 ∷ 0x80 ∷ 0x02 ∷ 0x00 ∷ []) ++ replicate 12 0 ++ replicate 616 0))
-    -- 3E1047 then 3E10 written to 5: the values, and what 5 reads
-    ∷ fact (value (take 12 (drop 12 T₂))) (value (0x00 ∷ 0x00 ∷ 0x04 ∷ 0x00 ∷ 0x33 ∷ 0x45 ∷ 0x31 ∷ 0x30 ∷ 0x34 ∷ 0x37 ∷ 0x00 ∷ 0x00 ∷ []))
+    -- 3E1047 then 3E10 written to 5: the values, which end `00 00` by K3 where they ended `34 37`, and what 5 reads
+    ∷ fact (value (take 12 (drop 12 T₂))) (value (0x00 ∷ 0x00 ∷ 0x04 ∷ 0x00 ∷ 0x33 ∷ 0x45 ∷ 0x31 ∷ 0x30 ∷ 0x00 ∷ 0x00 ∷ 0x00 ∷ 0x00 ∷ []))
     ∷ fact (getTold T₂ 5) (value (0x33 ∷ 0x45 ∷ 0x31 ∷ 0x30 ∷ []))
     -- then offset 5, nine bytes; offset 4, five bytes; four bytes stored
     ∷ fact (writeTold T₂ 5 5 9) (att 0x07)

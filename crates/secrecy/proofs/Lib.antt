@@ -13,3 +13,4 @@ pub mod Agree
 pub mod Secret
 pub mod Replies
 pub mod Witness
+pub mod Tails

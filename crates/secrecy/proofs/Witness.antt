@@ -17,7 +17,7 @@ use Rattle.table_view.specs.Rules.{indexEntryOk, indexOk, valueOk, valuesOk, ac
 use Rattle.table_view.specs.Lookup.{placeFrom, indexPlace}
 use Rattle.table_view.specs.View.{view, itemAt, itemsFrom}
 use Rattle.table_view.specs.Told.{Told, done, none, value, refused, att}
-use Rattle.client_att_table.specs.Write.{planAt, withLen, laid, afterWrite}
+use Rattle.client_att_table.specs.Write.{planAt, withLen, laid, dropped, stored, afterWrite}
 use Rattle.table_builder.specs.Push.{builder, lastKey, entryFits, valueSize, flagged, pushPlan, withEntry}
 use Rattle.attribute.specs.Record.{attributeOf, uuidOf, withLength, entryOf}
 use Rattle.attribute.specs.Rules.{fieldsOk, rangeOk, entryOk, endAfter, entriesOk, listOk}
@@ -116,7 +116,7 @@ lastByte (att c ∷ l) = 0
 
 -- what she hears computes
 hears : (heard ada (hubWith 3 0) calls ≡ answers) × (lastByte (heard ada (hubWith 1 0) calls) ≡ 0x30) × (lastByte (heard ada (hubWith 1 1) calls) ≡ 0x31)
-unfolding answers lastByte heard toldBy stepBy stateBy stateAfter putAt ownTables recordBy recordAfter dataBy dataAfter longer prepareRule sizeRule isDue executeAccess changeTold errorRsp writeAt writeOf writeRule afterWrite planAt laid withLen placeFrom indexPlace placeIn wanted seatedAt matches tableAt itemsFrom itemAt valueAt lengthPut sharedList sharedStore withLength uuidOf connecting calls isRequest isCompared sameId isBad isEmpty zeros alike both hubWith stateWith listWith storeWith recordWith tableWith admissionBy isBadBuffer validWith recordOk valid afterAll word nextAt headAt lenAt indexEntryOk indexOk valueOk valuesOk accepts builder lastKey entryFits valueSize flagged pushPlan withEntry attributeOf fieldsOk rangeOk entryOk endAfter entriesOk listOk clientsOf freshTable spaceOf entriesSize laidOut slotOk slotsOk requestTold askRsp valueRsp readAt first seenBy entryOf accessOf readOf atValue sharedItem
+unfolding answers lastByte heard toldBy stepBy stateBy stateAfter putAt ownTables recordBy recordAfter dataBy dataAfter longer prepareRule sizeRule isDue executeAccess changeTold errorRsp writeAt writeOf writeRule afterWrite planAt stored dropped laid withLen placeFrom indexPlace placeIn wanted seatedAt matches tableAt itemsFrom itemAt valueAt lengthPut sharedList sharedStore withLength uuidOf connecting calls isRequest isCompared sameId isBad isEmpty zeros alike both hubWith stateWith listWith storeWith recordWith tableWith admissionBy isBadBuffer validWith recordOk valid afterAll word nextAt headAt lenAt indexEntryOk indexOk valueOk valuesOk accepts builder lastKey entryFits valueSize flagged pushPlan withEntry attributeOf fieldsOk rangeOk entryOk endAfter entriesOk listOk clientsOf freshTable spaceOf entriesSize laidOut slotOk slotsOk requestTold askRsp valueRsp readAt first seenBy entryOf accessOf readOf atValue sharedItem
 hears = (refl, refl, refl)
 
 not-same : heard ada (hubWith 1 0) calls ≡ heard ada (hubWith 1 1) calls → ⊥

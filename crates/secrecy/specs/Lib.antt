@@ -5,3 +5,4 @@ pub mod Secret
 pub mod Replies
 pub mod Witness
 pub mod Untouched
+pub mod Tails

@@ -123,12 +123,12 @@ module _ (bs out : List ℕ) (s : SameIndex bs out) (ok : accepts bs ≡ true) (
 
 -- the part up to the values' end is the same table
 module _ (bs : List ℕ) (ok : accepts bs ≡ true) where
-  raw-index : SameIndex bs (take (endOf bs) bs)
+  pub raw-index : SameIndex bs (take (endOf bs) bs)
   raw-index =
       let f = fits bs ok in
       record { room = simp length-take (omega arith); bytes = λ j h. getD-take (endOf bs) bs j 0 (omega arith) }
 
-  raw-bytes : (j : ℕ) → j < countOf bs → (n : ℕ) → baseOf bs + offAt bs j ≤ n → n < baseOf bs + nextAt bs j → getD (take (endOf bs) bs) n 0 ≡ getD bs n 0
+  pub raw-bytes : (j : ℕ) → j < countOf bs → (n : ℕ) → baseOf bs + offAt bs j ≤ n → n < baseOf bs + nextAt bs j → getD (take (endOf bs) bs) n 0 ≡ getD bs n 0
   raw-bytes j h n a b =
       let e = entry-at bs ok j h in
       let w = e .within in

@@ -25,10 +25,11 @@ pub enum Kind {
     RowLeftBehind,
     MultipleOpcode,
     MultipleShort,
+    DroppedTail,
 }
 
 impl Kind {
-    pub const ALL: [Kind; 13] = [
+    pub const ALL: [Kind; 14] = [
         Kind::BadList,
         Kind::ListTooLong,
         Kind::BadState,
@@ -42,6 +43,7 @@ impl Kind {
         Kind::RowLeftBehind,
         Kind::MultipleOpcode,
         Kind::MultipleShort,
+        Kind::DroppedTail,
     ];
 
     /// The sentence that it stands for.
@@ -70,6 +72,9 @@ impl Kind {
             }
             Kind::MultipleOpcode => "Read Multiple: the error names opcode 0x0E; in the Rust 0x20",
             Kind::MultipleShort => "Read Multiple of under 2 bytes: code 0x04, handle 0; the Rust panics",
+            Kind::DroppedTail => {
+                "a write: what a variable client value drops, up to its former length, becomes zeros; in the Rust it stays"
+            }
         }
     }
 }
@@ -244,7 +249,8 @@ fn stopped(answer: &Answer, why: &str) -> bool {
     matches!(answer, Answer::Stopped(message) if message.contains(why))
 }
 
-/// What differs between the two states after a call, in words. There is no listed difference of states.
+/// What differs between the two states after a call, in words. There is no listed difference of states: what a write drops has
+/// been zeroed on the original's side (`Hub::call_and_clear`).
 pub fn of_states(call: &Call, ours: &Ours, hub: &Hub) -> Option<String> {
     lists(ours, hub)
         .or_else(|| (ours.store != hub.store()).then(|| "the stores differ".to_string()))

@@ -4,10 +4,11 @@
 //! much. One is kept where enough of its answers are of sorts that were not shown often enough; then all is left out of it
 //! without which these answers, and what they change, stay the same. Nothing here depends on anything but the seed.
 
+use crate::differences;
 use crate::lists::List;
 use crate::script::{self, Model, Totals, Turn};
 use crate::shorten::{self, Item};
-use crate::tables::TableCall;
+use crate::tables::{self, TableCall};
 use crate::transcript::Transcript;
 use crate::Options;
 use original::{Call, Entry};
@@ -223,8 +224,15 @@ pub fn show(model: &mut Model, turn: &Turn) -> Option<Shown> {
     };
     let answer = lines.asked.iter().position(|line| !line.starts_with("poke"))?;
     let mut sort = vec![sort(&lines.answers[answer])];
-    sort.extend(totals.counts.kinds.keys().map(|kind| format!("{kind:?}")));
-    sort.extend(totals.kinds.keys().map(|kind| format!("{kind:?}")));
+    // what a write drops stands in the state; no answer tells it
+    let hubs = totals
+        .counts
+        .kinds
+        .keys()
+        .filter(|kind| **kind != differences::Kind::DroppedTail);
+    let tables = totals.kinds.keys().filter(|kind| **kind != tables::Kind::DroppedTail);
+    sort.extend(hubs.map(|kind| format!("{kind:?}")));
+    sort.extend(tables.map(|kind| format!("{kind:?}")));
     let changed: BTreeSet<&str> = change.iter().map(|(part, _, _)| *part).collect();
     sort.extend(changed.into_iter().map(String::from));
     Some(Shown {

@@ -128,7 +128,8 @@ impl Pair {
                 Err(format!("ours {ours:02X?}, of a UUID that no entry has {expected:02X?}"))
             };
         }
-        let (theirs, clean) = self.hub.call(call);
+        let (theirs, clean, dropped) = self.hub.call_and_clear(call);
+        counts.add(dropped.then_some(Kind::DroppedTail));
         if *ours != theirs {
             let kinds = differences::explain(call, &self.hub, ours, &theirs);
             counts.add(kinds.ok_or_else(|| format!("ours {ours:02X?}\nRust {theirs:02X?}"))?);

@@ -52,16 +52,18 @@ pub enum Kind {
     TooLong,
     NoBuilder,
     NoTable,
+    DroppedTail,
 }
 
 impl Kind {
-    pub const ALL: [Kind; 6] = [
+    pub const ALL: [Kind; 7] = [
         Kind::BadEntry,
         Kind::KeyOrder,
         Kind::KeyOrderFull,
         Kind::TooLong,
         Kind::NoBuilder,
         Kind::NoTable,
+        Kind::DroppedTail,
     ];
 
     /// The sentence that it stands for.
@@ -75,6 +77,7 @@ impl Kind {
             Kind::TooLong => "push: more than 640 bytes are refused 6; the Rust counts on, build panics",
             Kind::NoBuilder => "push, build: bytes that no builder has are refused 4; the Rust's type is closed",
             Kind::NoTable => "table calls: bytes that are no table are refused 4; the Rust's type is closed",
+            Kind::DroppedTail => "write: what a variable value drops becomes zeros; in the Rust it stays",
         }
     }
 }
@@ -118,11 +121,18 @@ impl Tables {
             _ if !table::is_table(&self.table) => return refused(4, Kind::NoTable),
             TableCall::Raw => return plain(table::read(&self.table)),
             TableCall::Get(key) => return plain(table::get(&self.table, *key)),
-            TableCall::Write { key, offset, data } => return plain(table::write(&mut self.table, *key, *offset, data)),
+            TableCall::Write { key, offset, data } => return Ok(self.write(*key, *offset, data)),
             TableCall::SetValues(saved) => return plain(table::set_values(&mut self.table, saved)),
             TableCall::Clear => return plain(table::clear(&mut self.table)),
         }
         plain(Answer::Done)
+    }
+
+    fn write(&mut self, key: u16, offset: usize, data: &[u8]) -> Expected {
+        let before = self.table;
+        let answer = table::write(&mut self.table, key, offset, data);
+        let dropped = table::clear_dropped(&before, &mut self.table);
+        (answer, dropped.then_some(Kind::DroppedTail))
     }
 
     fn push(&mut self, key: u16, len: u16, variable: bool) -> Result<Expected, String> {

@@ -152,6 +152,18 @@ impl Call {
             _ => None,
         }
     }
+
+    /// Whether it may write to a value.
+    pub fn writes(&self) -> bool {
+        match self {
+            Call::Set { .. } => true,
+            Call::Process { request, .. } => matches!(
+                request,
+                Request::Write { .. } | Request::WriteCommand { .. } | Request::ExecuteWrite { .. }
+            ),
+            _ => false,
+        }
+    }
 }
 
 impl Request {

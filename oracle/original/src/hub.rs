@@ -6,7 +6,7 @@ use crate::attribute_server::sealed::DynamicAttributeServer as _;
 use crate::attribute_server::{AttributeServer, ClientAttTableView};
 use crate::connection::{Connection, PrepareWriteState, SecurityLevel};
 use crate::slots::{self, Slot, Table, SLOTS};
-use crate::table::whole;
+use crate::table::{self, whole};
 use crate::{Answer, Call, Entry, Error, Identity, NoPool, Request};
 use embassy_sync::blocking_mutex::raw::NoopRawMutex;
 use std::cell::RefCell;
@@ -62,6 +62,31 @@ impl Hub {
         };
         let clean = out[used..].iter().all(|byte| *byte == FILL);
         (answer, clean)
+    }
+
+    /// Makes a call by the requirements' rule for what it drops of client values: that becomes zeros. Also tells whether
+    /// the original had left anything else there.
+    pub fn call_and_clear(&self, call: &Call) -> (Answer, bool, bool) {
+        let before = call.writes().then(|| self.tables());
+        let (answer, clean) = self.call(call);
+        let dropped = before.is_some_and(|before| self.clear_dropped(&before));
+        (answer, clean, dropped)
+    }
+
+    fn tables(&self) -> [Table; SLOTS] {
+        std::array::from_fn(|i| self.slot(i).table)
+    }
+
+    fn clear_dropped(&self, before: &[Table; SLOTS]) -> bool {
+        let mut found = false;
+        for (i, before) in before.iter().enumerate() {
+            let mut slot = self.slot(i);
+            if table::clear_dropped(before, &mut slot.table) {
+                self.poke_slot(i, &slot);
+                found = true;
+            }
+        }
+        found
     }
 
     fn dispatch(&self, call: &Call, out: &mut [u8]) -> Answer {

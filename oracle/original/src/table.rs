@@ -32,6 +32,24 @@ pub fn write(table: &mut Table, key: u16, offset: usize, value: &[u8]) -> Answer
     })
 }
 
+/// Where a variable value has become shorter than it was in `before`, the requirements have zeros from its length up to the
+/// former one; the original leaves what stood there. Puts the zeros, and tells whether anything else was there.
+pub fn clear_dropped(before: &Table, table: &mut Table) -> bool {
+    let word = |bytes: &Table, at: usize| usize::from(u16::from_le_bytes([bytes[at], bytes[at + 1]]));
+    let count = word(before, 0);
+    let mut found = false;
+    for entry in (4..).step_by(4).take(count) {
+        let at = 4 + 4 * count + word(before, entry + 2);
+        if word(before, entry) & 0x8000 == 0 || word(table, at) >= word(before, at) {
+            continue;
+        }
+        let dropped = at + 2 + word(table, at)..at + 2 + word(before, at);
+        found |= table[dropped.clone()].iter().any(|byte| *byte != 0);
+        table[dropped].fill(0);
+    }
+    found
+}
+
 pub fn set_values(table: &mut Table, saved: &[u8]) -> Answer {
     change(table, |table| {
         view(saved, |saved| {

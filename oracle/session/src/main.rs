@@ -2,7 +2,8 @@
 //!
 //!     oracle [--raw] < NAME.in
 //!
-//! Refusals that the original does not know (1, 2 and 3) are given by the requirements' rules; `--raw` leaves them out.
+//! Refusals that the original does not know (1, 2 and 3) are given by the requirements' rules, and what a client value drops
+//! becomes zeros; with `--raw` the original is left to itself.
 
 use session::Session;
 use std::io::{self, BufRead, BufWriter, Write};

@@ -12,7 +12,7 @@ use std::fmt::Write;
 const ENTRIES: usize = 65;
 
 pub struct Session {
-    /// Without the refusals that the original does not know.
+    /// Without the refusals that the original does not know, and with what it leaves of a longer client value.
     raw: bool,
     list: Vec<Entry>,
     store: Vec<u8>,
@@ -93,7 +93,11 @@ impl Session {
         let refusal = if self.raw { None } else { refusal(hub, call) };
         let (answer, clean) = match refusal {
             Some(number) => (Answer::Refused(number), true),
-            None => hub.call(call),
+            None if self.raw => hub.call(call),
+            None => {
+                let (answer, clean, _) = hub.call_and_clear(call);
+                (answer, clean)
+            }
         };
         if let Call::Process { .. } = call {
             self.clean = clean;
@@ -153,11 +157,20 @@ impl Session {
             "tmem" => return Some(memory(&self.table)),
             "traw" => return Some(shown("table", "ok", table::read(&self.table))),
             "tget" => return Some(shown("val", "none", table::get(&self.table, words.u16()?))),
-            "twrite" => table::write(&mut self.table, words.u16()?, words.number()?, &words.bytes()?),
+            "twrite" => self.write(words.u16()?, words.number()?, &words.bytes()?),
             "tsetv" => table::set_values(&mut self.table, &words.bytes()?),
             _ => table::clear(&mut self.table),
         };
         Some(shown("val", "ok", answer))
+    }
+
+    fn write(&mut self, key: u16, offset: usize, data: &[u8]) -> Answer {
+        let before = self.table;
+        let answer = table::write(&mut self.table, key, offset, data);
+        if !self.raw && answer == Answer::Done {
+            table::clear_dropped(&before, &mut self.table);
+        }
+        answer
     }
 
     fn builder(&mut self, word: &str, mut words: Words<'_>) -> Option<String> {
