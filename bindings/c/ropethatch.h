@@ -255,8 +255,8 @@ ropethatch_reply ropethatch_get(const ropethatch_slot *slots, size_t slots_count
                                 ropethatch_identity who, uint16_t handle, uint8_t *out, size_t out_count);
 
 /* The application sets a value: a shared one, or `who`'s own client value, whole. No permission is asked. A variable value takes the length
-   of the data. Of a longer value that stood there, a client value's table has zeros behind the data; the store keeps what was behind a
-   shared one's, which is not part of the value. A request that writes does the same.
+   of the data. Where it was longer, zeros take the place of the rest in a client value's table; behind a shared value the store keeps the
+   old bytes, which are not part of it. Requests that write do the same.
    DONE; ATT 0x0A (as for get), 0x0D (longer than the capacity of a variable value); REFUSED 1, 3, 8, 9. */
 ropethatch_reply ropethatch_set(const ropethatch_slot *slots, size_t slots_count, ropethatch_record *list, size_t list_count,
                                 uint8_t *store, size_t store_count, ropethatch_table *tables, size_t tables_count,
@@ -285,7 +285,7 @@ ropethatch_reply ropethatch_should_indicate(const ropethatch_slot *slots, size_t
                                             uint16_t handle);
 
 /* Copies the tablet's table, to be saved: all of it, or as much as ropethatch_saved_length says. In a hub that ropethatch_new opened and
-   the calls alone have written to, no byte of it is left of a value that was longer.
+   the calls alone have written to, nothing is left in it of values that were longer.
    VALUE, always of 640 bytes; NOTHING (the tablet has no slot, and out is as lent); REFUSED 1, 3. */
 ropethatch_reply ropethatch_get_client_att_table(const ropethatch_slot *slots, size_t slots_count, const ropethatch_record *list,
                                                  size_t list_count, const uint8_t *store, size_t store_count,
