@@ -4,6 +4,7 @@ use mathlib.Core.Path.{_≡_, refl, _∙_}
 use mathlib.Core.Bool.{Bool, true, false, cond}
 use mathlib.Core.List.{List, [], _∷_}
 use Prim.Native.Nat.{ℕ, zero, suc, _<_}
+use native.Mathlib.Omega.{arith}
 use lib.ListN.{length, getD, set}
 use lib.Seq.{sets, length-sets}
 use Rattle.client_att_table.specs.Clear.{cleared}
@@ -57,13 +58,16 @@ module _ {A : Type 0} (P : A → Type 0) where
 abbrev SameSizes : List (List ℕ) → List (List ℕ) → Type 0
 SameSizes old new = (j : ℕ) → length (getD new j []) ≡ length (getD old j [])
 
--- one part in another's place, as long as that one
+-- one part in another's place: what holds of it there and of the parts before holds of all
+pub each-set : (P : ℕ → List ℕ → Type 0) (l : List (List ℕ)) (i : ℕ) (x : List ℕ) → (i < length l → P i x) → ((j : ℕ) → P j (getD l j [])) → (j : ℕ) → P j (getD (set l i x) j [])
+each-set P [] i x p h j = h j
+each-set P (y ∷ l) zero x p h zero = p (omega arith)
+each-set P (y ∷ l) zero x p h (suc j) = h (suc j)
+each-set P (y ∷ l) (suc i) x p h zero = h zero
+each-set P (y ∷ l) (suc i) x p h (suc j) = each-set (λ k. P (suc k)) l i x (λ q. p (omega arith)) (λ k. h (suc k)) j
+
 set-sizes : (l : List (List ℕ)) (i : ℕ) (x : List ℕ) → length x ≡ length (getD l i []) → SameSizes l (set l i x)
-set-sizes [] i x e j = refl
-set-sizes (y ∷ l) zero x e zero = e
-set-sizes (y ∷ l) zero x e (suc j) = refl
-set-sizes (y ∷ l) (suc i) x e zero = refl
-set-sizes (y ∷ l) (suc i) x e (suc j) = set-sizes l i x e j
+set-sizes l i x e = each-set (λ j y. length y ≡ length (getD l j [])) l i x (λ q. e) (λ j. refl)
 
 module _ (s : State) (z : Sized s) where
   -- the tables after a tablet came or left, wrote, or gave a saved table back

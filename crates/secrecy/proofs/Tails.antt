@@ -4,7 +4,7 @@ use mathlib.Core.Path.{_≡_, refl, sym, ap, _∙_}
 use mathlib.Core.Bool.{Bool, true, false}
 use mathlib.Core.List.{List, [], _∷_, append-nil}
 use mathlib.Core.Logic.{⊎-elim}
-use Prim.Native.Nat.{ℕ, zero, suc, _+_, _≤_, _<_}
+use Prim.Native.Nat.{ℕ, _+_, _≤_, _<_}
 use native.Mathlib.Omega.{arith}
 use lib.ListN.{length, getD, set, replicate, getD-replicate, drop-of-length-le, List·getD-eq-default}
 use lib.Seq.{sets, sets-eq}
@@ -47,16 +47,8 @@ use Rattle.secrecy.specs.Hub.{Hub, Deed, Process, Connect, Disconnect, S
 use Rattle.secrecy.specs.Valid.{Valid, fresh}
 use Rattle.secrecy.specs.Tails.{NothingOld, OldLettersAreGone}
 use Rattle.secrecy.proofs.Own.{tables-put, tables-restored}
-use Rattle.secrecy.proofs.Sizes.{either, left-either}
+use Rattle.secrecy.proofs.Sizes.{either, left-either, each-set}
 use Rattle.secrecy.proofs.Valid.{fresh-valid, step-valid}
-
--- of each part of a list, after one was replaced
-each-set : (P : List ℕ → Type 0) (l : List (List ℕ)) (i : ℕ) (x : List ℕ) → (i < length l → P x) → ((j : ℕ) → P (getD l j [])) → (j : ℕ) → P (getD (set l i x) j [])
-each-set P [] i x p h j = h j
-each-set P (y ∷ l) zero x p h zero = p (omega arith)
-each-set P (y ∷ l) zero x p h (suc j) = h (suc j)
-each-set P (y ∷ l) (suc i) x p h zero = h zero
-each-set P (y ∷ l) (suc i) x p h (suc j) = each-set P l i x (λ q. p (omega arith)) (λ k. h (suc k)) j
 
 abbrev AllZero : List (List ℕ) → Type 0
 AllZero ts = (k : ℕ) → ZeroTails (getD ts k [])
@@ -82,12 +74,12 @@ fresh-zero s bytes e k =
 -- one table of a state after a call, and all of them after a tablet came or left
 module _ (s : State) (z : AllZero (s .tables)) where
   called : (k : Seat) (c : TableCall) → AllZero (set (s .tables) (k .0) (bytesAfter (getD (s .tables) (k .0) []) c))
-  called k c = each-set ZeroTails (s .tables) (k .0) _ (λ h. call-tails _ (z (k .0)) c) z
+  called k c = each-set (λ j. ZeroTails) (s .tables) (k .0) _ (λ h. call-tails _ (z (k .0)) c) z
 
   moved : valid s ≡ true → (m : Move) → AllZero (afterMove s m .tables)
   moved v m =
       either AllZero (m .clears) _ _
-      (each-set ZeroTails (s .tables) (m .place) _ (λ h. cleared-tails _ (tables-read s v .read (m .place) (omega (arith, eight-tables s v)))) z) z
+      (each-set (λ j. ZeroTails) (s .tables) (m .place) _ (λ h. cleared-tails _ (tables-read s v .read (m .place) (omega (arith, eight-tables s v)))) z) z
 
 abbrev Zero : State → Type 0
 Zero s = AllZero (s .tables)
