@@ -1,5 +1,7 @@
 // The refusals that come before anything else, in one place: the lowest number first, and a call that is refused
 // changes nothing. 1 is for a state that is not valid, 2 for a bad buffer, 3 for a bad identity.
+#![tactic(auto)]
+
 pub mod request;
 
 ghost use Rattle.std.specs.Prelude.{◌≡◌, false};
@@ -13,7 +15,7 @@ use peers::Identity;
 use wire::sizes::{Record, SlotBytes, Table};
 
 // Whether a call is let in, or what it is answered.
-#[derive(Drop)]
+#[derive(Clone, Copy)]
 pub enum Admission {
     Yes,
     No(Answer),

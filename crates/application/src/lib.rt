@@ -1,3 +1,5 @@
 // What the application asks of a valid state: values and subscriptions of a peer, without a permission test, and its
 // whole table.
+#![tactic(auto)]
+
 pub mod inner;

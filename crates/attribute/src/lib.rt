@@ -6,13 +6,15 @@
 //
 // `rules` says which lists are right; the lookups can be called with any. What asks something of its caller stands in
 // `inner`.
+#![tactic(auto)]
+
 pub mod inner;
 pub mod lookup;
 pub mod needs;
 pub mod rules;
 
 // A list entry, but for its UUID. A client value has no range and no length of its own.
-#[derive(Drop)]
+#[derive(Clone, Copy)]
 pub struct Attribute {
     pub handle: u16,
     pub cap: u16,
@@ -25,7 +27,7 @@ pub struct Attribute {
 }
 
 // How far a link is trusted. An authenticated one is encrypted too; one that is gone is told so before any need.
-#[derive(Drop)]
+#[derive(Clone, Copy)]
 pub enum Link {
     Plain,
     Encrypted,
@@ -34,14 +36,14 @@ pub enum Link {
 }
 
 // What a link wants to do with a value.
-#[derive(Drop)]
+#[derive(Clone, Copy)]
 pub enum Wish {
     Read,
     Write,
 }
 
 // Whether a link meets a need, or the ATT code that says why not.
-#[derive(Drop)]
+#[derive(Clone, Copy)]
 pub enum Access {
     Granted,
     Denied(u8),

@@ -11,7 +11,7 @@ use peers::{Identity, Move};
 use wire::sizes::{Record, SlotBytes, Table};
 
 // What is answered, and what is left to put into the row.
-#[derive(Drop)]
+#[derive(Clone, Copy)]
 pub struct Joining {
     pub answer: Answer,
     pub m: Move,

@@ -2,6 +2,8 @@
 // write goes in and comes back by value.
 //
 // Each call refuses first, the lowest number first, and then changes nothing: the crate `admission` has the refusals.
+#![tactic(auto)]
+
 pub mod connection;
 pub mod inner;
 pub mod request;

@@ -10,7 +10,7 @@ use attribute::inner::{handle_at, is_short, uuid};
 use wire::sizes::Record;
 
 // The entries up to place `stop` belong to one group, which ends at handle `end`.
-#[derive(Drop)]
+#[derive(Clone, Copy)]
 pub struct Group {
     pub stop: usize,
     pub end: u16,

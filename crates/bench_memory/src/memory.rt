@@ -3,7 +3,7 @@ use lines::say;
 
 // The counts of the pending list and store; whether a hub is open, and its counts; and whether the bytes past the last
 // response were as they were lent.
-#[derive(Drop)]
+#[derive(Clone, Copy)]
 pub struct Bench {
     pub pending: usize,
     pub kept: usize,
@@ -14,7 +14,7 @@ pub struct Bench {
 }
 
 // What a group of calls answers that may change this: whether the line was one of them, and the bench after it.
-#[derive(Drop)]
+#[derive(Clone, Copy)]
 pub struct Handled {
     pub known: bool,
     pub bench: Bench,

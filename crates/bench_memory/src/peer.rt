@@ -3,7 +3,7 @@ use lines::{number, words};
 use peers::Identity;
 
 // An identity that was read, if the word is one.
-#[derive(Drop)]
+#[derive(Clone, Copy)]
 pub struct Who {
     pub ok: bool,
     pub id: Identity,

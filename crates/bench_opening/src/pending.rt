@@ -6,7 +6,7 @@ use wire::least;
 use wire::sizes::{RECORD_SIZE, Record};
 
 // The numbers of an `attr` line. Flags: 1 variable, 2 client.
-#[derive(Drop)]
+#[derive(Clone, Copy)]
 struct AttrLine {
     handle: usize,
     reads: usize,

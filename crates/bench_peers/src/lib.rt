@@ -1,4 +1,6 @@
 // The calls of peers that come and go, and on the tables that are kept for them.
+#![tactic(auto)]
+
 use bench_memory::{memory, peer, reply};
 use lines::{number, parts, words};
 use wire::sizes::{Record, SlotBytes, TABLE_SIZE, Table};

@@ -1,3 +1,5 @@
 // The whole state told, and altered with no test.
+#![tactic(auto)]
+
 pub mod dump;
 pub mod poke;

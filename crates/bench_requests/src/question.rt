@@ -5,7 +5,7 @@ use lines::{number, words};
 use numbers::RequestNumbers;
 
 // A request, if the line has one.
-#[derive(Drop)]
+#[derive(Clone, Copy)]
 pub struct Question {
     pub ok: bool,
     pub asked: RequestNumbers,

@@ -11,7 +11,7 @@ use wire::sizes::{PreparedBytes, Record, SlotBytes, Table};
 
 // Who asks over which link, with which prepared write and how long a buffer. No buffer over 517 bytes is taken, so that
 // 1,024 stand for any more.
-#[derive(Drop)]
+#[derive(Clone, Copy)]
 struct Asking {
     ok: bool,
     who: Identity,

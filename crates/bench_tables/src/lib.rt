@@ -1,4 +1,6 @@
 // The calls on a builder and a client table by themselves, and on saved tables.
+#![tactic(auto)]
+
 use bench_memory::reply;
 use lines::{number, parts, say, words};
 use table_builder::Pushed;

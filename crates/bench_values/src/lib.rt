@@ -1,5 +1,7 @@
 // The calls of the application on a hub's values: reading and setting one, what a link may do with it, and who has
 // subscribed to it.
+#![tactic(auto)]
+
 use bench_memory::{memory, peer, reply};
 use lines::{number, parts, words};
 use wire::least;

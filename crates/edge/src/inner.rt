@@ -14,7 +14,7 @@ use peers::{Identity, Seated, Slot};
 use wire::sizes::{Record, SLOTS, Table};
 
 // The reply, and which slot stands at which place then; a place past the row is none.
-#[derive(Drop)]
+#[derive(Clone, Copy)]
 pub struct Joined {
     pub reply: Reply,
     pub place: usize,

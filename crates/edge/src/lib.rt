@@ -1,5 +1,7 @@
 // The server's calls in plain numbers, as a boundary to C and Rust can carry them: the crate `numbers` says which.
 // The prepared write still goes by value; the crate `ropethatch` lends it.
+#![tactic(auto)]
+
 pub mod connection;
 pub mod inner;
 pub mod opening;

@@ -10,7 +10,7 @@ use state::Prepared;
 use wire::sizes::{PreparedBytes, Record, SlotBytes, Table};
 
 // A request answered: the reply, and the link's prepared write after it.
-#[derive(Drop)]
+#[derive(Clone, Copy)]
 pub struct Serving {
     pub reply: Reply,
     pub next: Prepared,

@@ -1,2 +1,4 @@
 // Find By Type Value.
+#![tactic(auto)]
+
 pub mod inner;

@@ -1,2 +1,4 @@
 // Find Information.
+#![tactic(auto)]
+
 pub mod inner;

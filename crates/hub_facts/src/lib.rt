@@ -1,5 +1,7 @@
 // The facts about requests and slots, run on a hub with values of 5, 5 and 6 bytes under handles 1, 2 and 3: a part of
 // the program `worked_facts`.
+#![tactic(auto)]
+
 pub mod say;
 
 use attribute::Link;

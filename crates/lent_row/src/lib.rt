@@ -1,5 +1,7 @@
 // The row of slots, lent as one slice of records: the walk over it where it lies, and the whole of it by value. What
 // connecting and leaving do stands above.
+#![tactic(auto)]
+
 pub mod inner;
 
 ghost use Rattle.std.specs.Prelude.{◌≡◌};

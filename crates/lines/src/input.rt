@@ -2,14 +2,14 @@
 use libc::STDIN_FILENO;
 
 // How much of the chunk that was read last has been handed out, and where what was read ends.
-#[derive(Drop)]
+#[derive(Clone, Copy)]
 pub struct Feed {
     pub at: usize,
     pub end: usize,
 }
 
 // The next byte of the input, if there is one.
-#[derive(Drop)]
+#[derive(Clone, Copy)]
 struct Step {
     feed: Feed,
     got: bool,
@@ -17,7 +17,7 @@ struct Step {
 }
 
 // A line was read: how many bytes it has, or one more than there is room for, and whether the input ended with it.
-#[derive(Drop)]
+#[derive(Clone, Copy)]
 pub struct Line {
     pub feed: Feed,
     pub len: usize,

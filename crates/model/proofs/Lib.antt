@@ -4,7 +4,7 @@ pub mod Along
 pub mod Sending
 pub mod Looking
 pub mod Telling
-pub mod Hidden
+pub mod Unseen
 pub mod States
 pub mod Leaving
 pub mod Fitting

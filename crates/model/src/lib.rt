@@ -1,7 +1,8 @@
 // What requests ask and what answers are made of. The definitions that the promises cite stand in `specs`.
+#![tactic(auto)]
 
 // A range of handles, both ends in it.
-#[derive(Drop)]
+#[derive(Clone, Copy)]
 pub struct Range {
     pub start: u16,
     pub end: u16,
@@ -9,7 +10,7 @@ pub struct Range {
 
 // The requests whose answer the asking link's view decides. Beside a request stand the bytes that it brings: the UUID
 // of the two reads by type, the handles of Read Multiple.
-#[derive(Drop)]
+#[derive(Clone, Copy)]
 pub enum Ask {
     FindInformation(Range),
     ReadByType(Range),
@@ -20,7 +21,7 @@ pub enum Ask {
 }
 
 // The requests that may change something. The bytes beside them are the value to write.
-#[derive(Drop)]
+#[derive(Clone, Copy)]
 pub enum Change {
     Write { handle: u16 },
     WriteCommand { handle: u16 },
@@ -30,7 +31,7 @@ pub enum Change {
 
 // What a link may send. Find By Type Value looks at values that the link may not read; the bytes beside it are the
 // value looked for.
-#[derive(Drop)]
+#[derive(Clone, Copy)]
 pub enum Request {
     Ask(Ask),
     FindByTypeValue { range: Range, uuid: u16 },
@@ -41,7 +42,7 @@ pub enum Request {
 
 // What Read By Type and Read By Group Type differ in: whether the group's end stands before a value, the opcodes, the
 // longest value.
-#[derive(Drop)]
+#[derive(Clone, Copy)]
 pub struct Form {
     pub group: bool,
     pub op: u8,
@@ -51,7 +52,7 @@ pub struct Form {
 
 // What a call of the server answers: refused, by the number that `specs/Told` gives; an ATT code; done; nothing to
 // answer, or no; a value or a response of so many bytes, which stand in the buffer that was lent.
-#[derive(Drop)]
+#[derive(Clone, Copy)]
 pub enum Answer {
     BadState,
     BadBuffer,

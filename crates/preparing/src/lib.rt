@@ -1,11 +1,13 @@
 // Prepare Write, and what a request leaves of a link's prepared write.
+#![tactic(auto)]
+
 pub mod inner;
 
 use model::Answer;
 use state::Prepared;
 
 // The link's prepared write after a request, with the answer.
-#[derive(Drop)]
+#[derive(Clone, Copy)]
 pub struct Changed {
     pub prepared: Prepared,
     pub answer: Answer,

@@ -1,4 +1,6 @@
 // Prints the saved table on standard input. One byte more than the longest is read, so that a longer input shows.
+#![tactic(auto)]
+
 use libc::{STDIN_FILENO, STDOUT_FILENO};
 use table_printer::TEXT_SIZE;
 

@@ -1,5 +1,7 @@
 // Answers a fixed list of calls, chosen so that every handler, code and refusal is among them. The answers that are
 // stored beside it are those of the Rust original, or, where the two part, those that docs/DIFFERENCES.md gives.
+#![tactic(auto)]
+
 fn main() {
     test_bench::desk::run();
 }

@@ -1,2 +1,4 @@
 // Every request, handed to its handler.
+#![tactic(auto)]
+
 pub mod inner;

@@ -2,6 +2,8 @@
 // records to the calls that walk and change it, connecting and leaving, and as their bytes, which are the same memory,
 // to the others; the tables beside it as a slice of arrays; the link's prepared write by reference with its 512 bytes
 // beside it. A row of other than eight slots is refused by 1.
+#![tactic(auto)]
+
 pub mod connection;
 pub mod opening;
 pub mod request;

@@ -24,7 +24,7 @@ use Rattle.model.specs.Answer.{request_told}
 use Rattle.model.specs.Told.{Answered}
 use Rattle.model.specs.declared.Request.{Request}
 use Rattle.model.specs.declared.Request.TheVariants as request
-use Rattle.model.proofs.Hidden.{Alike, all_seen_same}
+use Rattle.model.proofs.Unseen.{Alike, all_seen_same}
 use Rattle.admission.specs.Admission.{told_if}
 use Rattle.attribute_server.specs.Request.{seen_of}
 use Rattle.secrecy.specs.Hub.{Hub, Asked, Deed, Process, Connect, Disconnect, Set, SetTable, Looks, Call, query_of, told_by, call_told, step}

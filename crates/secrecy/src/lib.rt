@@ -1,1 +1,2 @@
 // What holds over any list of calls: the statements stand in specs/, their proofs in proofs/. There is no code here.
+#![tactic(auto)]

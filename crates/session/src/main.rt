@@ -1,4 +1,6 @@
 // Answers the session on standard input, line by line.
+#![tactic(auto)]
+
 fn main() {
     test_bench::desk::run();
 }

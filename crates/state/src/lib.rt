@@ -1,4 +1,6 @@
 // Which lent states are valid, and a fresh hub.
+#![tactic(auto)]
+
 pub mod inner;
 
 ghost use Rattle.std.specs.Prelude.{◌≡◌};
@@ -11,7 +13,7 @@ use wire::sizes::{Record, SLOTS, SlotBytes, TABLE_SIZE, Table, VALUE_SIZE};
 // A link's prepared write: its handle, 0 where there is none; where it starts; and how many bytes of it lie in the data
 // beside it.
 #[repr(C)]
-#[derive(Drop)]
+#[derive(Clone, Copy)]
 pub struct Prepared {
     pub handle: u16,
     pub offset: u16,
@@ -19,7 +21,7 @@ pub struct Prepared {
 }
 
 // What opening a hub answers.
-#[derive(Drop)]
+#[derive(Clone, Copy)]
 pub enum Opened {
     Done,
     BadList,

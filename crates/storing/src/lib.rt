@@ -1,2 +1,4 @@
 // Storing a value: into the store and its record, or into the peer's own table.
+#![tactic(auto)]
+
 pub mod inner;

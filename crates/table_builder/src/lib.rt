@@ -1,5 +1,7 @@
 // The builder of a client table: entries pushed in ascending order of their keys. A builder is held in the 640 bytes of
 // the table to be.
+#![tactic(auto)]
+
 pub mod inner;
 
 ghost use Rattle.std.specs.Prelude.{◌≡◌, replicate};
@@ -11,7 +13,7 @@ use table_view::{Key, Outcome};
 use wire::sizes::{TABLE_SIZE, Table};
 
 // What a push answers.
-#[derive(Drop)]
+#[derive(Clone, Copy)]
 pub enum Pushed {
     Added,
     BadBuilder,

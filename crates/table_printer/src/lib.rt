@@ -1,4 +1,6 @@
 // A saved table as lines of text in a lent buffer (document 01, end of "Worked facts").
+#![tactic(auto)]
+
 ghost use Rattle.std.specs.Prelude.{◌≡◌, true, ◌≤◌, ◌<◌, length};
 ghost use Rattle.text.specs.Put.{Put, Short};
 ghost use Rattle.table_view.specs.Layout.{count_of};

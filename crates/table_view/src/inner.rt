@@ -10,7 +10,7 @@ ghost use Rattle.table_view.specs.Walk.{ComesTo, StopsAt, found_by};
 use crate::{Indexed, Key, Place};
 
 // Where a walk for a key stopped, and whether the key stands there.
-#[derive(Drop)]
+#[derive(Clone, Copy)]
 pub struct Stop {
     pub place: Place,
     pub hit: bool,

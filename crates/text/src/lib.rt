@@ -1,2 +1,4 @@
 // Bytes and numbers as text.
+#![tactic(auto)]
+
 pub mod inner;

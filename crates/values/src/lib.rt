@@ -1,8 +1,10 @@
 // Where a value lies, and copying it out: in the peer's own table, or in the store.
+#![tactic(auto)]
+
 pub mod inner;
 
 // A value's bytes.
-#[derive(Drop)]
+#[derive(Clone, Copy)]
 pub struct ValueSpan {
     pub client: bool,
     pub start: usize,
@@ -10,7 +12,7 @@ pub struct ValueSpan {
 }
 
 // A value, or the ATT code that stands for it.
-#[derive(Drop)]
+#[derive(Clone, Copy)]
 pub enum Located {
     Here(ValueSpan),
     Not(u8),

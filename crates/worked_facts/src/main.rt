@@ -1,5 +1,7 @@
 // Runs the worked facts of document 01 on the code and prints what it answers; the library `hub_facts` has those about
 // requests and slots. The crate `facts` has the starred ones as a proved table.
+#![tactic(auto)]
+
 mod say;
 
 use hub_facts::say::{line, say};

@@ -1,0 +1,28 @@
+-- `application::inner::get_client_att_table` meets its contract. By the slot, whose table has 640 bytes. Assumes
+-- nothing.
+use native.Mathlib.Omega.{arith}
+use borrow.Author.Rules.{rules}
+use Rattle.storing.proofs.Tables.{slot_there}
+use Rattle.application.proofs.Peers.{no_table, table_copied}
+use Rattle.application.proofs.inner.get_client_att_table.Goals as goal
+
+pub returns-in_default : goal.returns-in_default
+returns-in_default c =
+    no_table _ _ c.args.out.now c.in_default.is
+
+pub offset_bounds-tables-at : goal.offset_bounds-tables-at
+offset_bounds-tables-at c =
+    omega (arith, slot_there _ _ c.requires.0 _ c.in-At.is, c.requires.0.tables.eight)
+
+pub bounds-tables-at : goal.bounds-tables-at
+bounds-tables-at c =
+    slot_there _ _ c.requires.0 _ c.in-At.is
+
+pub copy-requires : goal.copy-requires
+copy-requires c =
+    omega (arith, c.requires.1)
+
+pub returns : goal.returns
+returns c =
+    table_copied _ _ c.args.out.now _ c.in-At.is (search rules) c.requires.1 _
+    c.copy.ensures

@@ -1,0 +1,38 @@
+use mathlib.Core.Path.{refl, sym, ◌∙◌}
+use mathlib.Core.Logic.{⊎_elim}
+use Prim.Native.Nat.{◌-◌}
+use native.Mathlib.Omega.{arith}
+use Rattle.attribute_walk.specs.Walk.{is_of_type}
+use Rattle.attribute_walk.proofs.Walks.{stretch_hit, stretch_miss, stretch_end, match_not}
+use Rattle.attribute_walk.proofs.walk.find_type.Goals as goal
+
+pub loop-i-init : goal.loop-i-init
+loop-i-init c = refl
+
+pub may_match-requires : goal.may_match-requires
+may_match-requires c = omega arith
+
+pub is_type-requires : goal.is_type-requires
+is_type-requires c = omega arith
+
+pub returns-then-is_type : goal.returns-then-is_type
+returns-then-is_type c =
+    sym (stretch_hit (is_of_type _) c.args.list.now _ _ c.requires.0 c.loop-i-test.true
+    (sym c.is_type.ensures ∙ c.if-is_type.true)) ∙ c.loop-i.invariant
+
+pub overflow_add-i : goal.overflow_add-i
+overflow_add-i c = omega arith
+
+pub loop-i-smaller : goal.loop-i-smaller
+loop-i-smaller c = omega arith
+
+pub loop-i-preserved : goal.loop-i-preserved
+loop-i-preserved c =
+    sym (stretch_miss (is_of_type _) c.args.list.now _ _ c.requires.0 c.loop-i-test.true
+    (⊎_elim (λ w. sym w.1.ensures ∙ w.2.left)
+    (λ w. match_not _ _ _ c.may_match.ensures.1 c.requires.1 (sym c.may_match.ensures.0 ∙ w.left))
+    c.if-may_match.branch)) ∙ c.loop-i.invariant
+
+pub returns : goal.returns
+returns c =
+    sym (stretch_end (is_of_type _) c.args.list.now _ _ c.requires.0 c.loop-i-test.false) ∙ c.loop-i.invariant

@@ -1,0 +1,8 @@
+-- `edge::connection::connect` meets its contract. The answer becomes a reply; the state is as the server leaves it.
+-- Assumes nothing.
+use Rattle.numbers.proofs.Telling.{replied}
+use Rattle.edge.proofs.connection.connect.Goals as goal
+
+pub returns : goal.returns
+returns c =
+    (replied c.connect-a.result _ _ c.connect-a.ensures.0 c.reply.ensures, c.connect-a.ensures.1)

@@ -1,0 +1,10 @@
+-- `edge::connection::disconnect` meets its contract. The answer becomes a reply; the state is as the server leaves it.
+-- Assumes nothing.
+use Rattle.numbers.proofs.Telling.{replied}
+use Rattle.edge.proofs.connection.disconnect.Goals as goal
+
+pub returns : goal.returns
+returns c = (
+  replied c.disconnect-a.result _ _ c.disconnect-a.ensures.0 c.reply.ensures,
+  c.disconnect-a.ensures.1,
+)

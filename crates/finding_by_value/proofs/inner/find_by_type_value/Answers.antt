@@ -1,0 +1,66 @@
+-- `finding_by_value::inner::find_by_type_value` meets its contract. A bad range, no row, or the rows: a law for each.
+-- Assumes nothing.
+use mathlib.Core.Path.{◌≡◌, sym, ◌∙◌}
+use mathlib.Core.Bool.{false}
+use mathlib.Core.List.{List}
+use Prim.Native.Nat.{ℕ}
+use native.Mathlib.Omega.{arith}
+use Rattle.wire.specs.Number.{word_bytes}
+use Rattle.attribute.specs.Lookup.{is_wanted}
+use Rattle.attribute_walk.proofs.Walks.{short_word, ordered}
+use Rattle.attribute_walk.proofs.Halves.{ascending}
+use Rattle.model.specs.Rows.{find_turn}
+use Rattle.model.specs.Run.{run}
+use Rattle.model.specs.Answer.{is_bad_range}
+use Rattle.model.proofs.Sending.{sent_as, bad_range, good_range, in_order}
+use Rattle.finding_by_value.proofs.Founds.{find_room, found_rows, rows_sent, error_sent}
+use Rattle.finding_by_value.proofs.inner.find_by_type_value.Goals as goal
+
+-- the range is good
+good : (c : goal.Else-is_bad) →
+    is_bad_range c.args.g ≡ false
+good c = sym c.is_bad.ensures ∙ c.if-is_bad.false
+
+-- the rows that the loop writes, by the room that is left
+abbrev rows : goal.After-put_found-c → ℕ → List ℕ
+rows c =
+    let at_byte = c.before.before.before.before.before.before in
+    let at-is-bad = at_byte.before.before.before.before in
+    let at-start = at-is-bad.before.before.before.before in
+    let a = at-start.args in
+    run (find_turn a.store.now (is_wanted a.g.start a.g.end (word_bytes a.uuid)) a.d.now) a.list.now
+
+pub returns-then-is_bad : goal.returns-then-is_bad
+returns-then-is_bad c =
+    sent_as _ _ _ _ _ c.error_response.ensures (bad_range _ _ (sym c.is_bad.ensures ∙ c.if-is_bad.true))
+
+pub stretch-p-requires : goal.stretch-p-requires
+stretch-p-requires c =
+    ascending _ _ c.requires.0
+
+pub put_found-c-requires : goal.put_found-c-requires
+put_found-c-requires c = (
+  (
+    ordered _ _ _ _ c.stretch-p.ensures.0 c.stretch-p.ensures.1 (in_order _ (good c.before.before.before.before.before.before.before.before)),
+    c.stretch-p.ensures.1.inside,
+    short_word _,
+  ),
+  (
+    c.requires.0,
+    find_room _ _ _ _ (omega (arith, c.requires.1)) c.new.ensures.0 c.byte-c.ensures.0
+        c.byte-c.ensures.1,
+  ),
+)
+
+pub returns-then-c-eq1 : goal.returns-then-c-eq1
+returns-then-c-eq1 c =
+    sent_as _ _ _ _ _ (error_sent _ _ _ _ _ _ _ (rows c.before.before.before.before.before.before.before.before) (omega (arith, c.requires.1)) c.new.ensures.0
+    c.byte-c.ensures.0 c.byte-c.ensures.1 (found_rows _ _ _ _ _ _ _ c.stretch-p.ensures.0
+    c.stretch-p.ensures.1 _ _ _ _ c.put_found-c.ensures) c.if-c-eq1.true _ _
+    c.error_response-then-c-eq1.ensures) (good_range _ _ (good c.before.before.before.before.before.before.before.before.before.before.before.before.before.before.before.before.before))
+
+pub returns : goal.returns
+returns c =
+    sent_as _ _ _ _ _ (rows_sent _ _ _ _ _ _ _ (rows c.before.before.before.before) (omega (arith, c.requires.1)) c.new.ensures.0
+    c.byte-c.ensures.0 c.byte-c.ensures.1 (found_rows _ _ _ _ _ _ _ c.stretch-p.ensures.0
+    c.stretch-p.ensures.1 _ _ _ _ c.put_found-c.ensures) c.if-c-eq1.false) (good_range _ _ (good c.before.before.before.before.before.before.before.before.before.before.before.before.before))

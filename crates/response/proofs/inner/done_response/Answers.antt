@@ -1,0 +1,15 @@
+-- `response::inner::done_response` meets its contract. One byte, or the error. Assumes nothing.
+use native.Mathlib.Omega.{arith}
+use Rattle.model.proofs.Sending.{sent, sent_as}
+use Rattle.response.proofs.Errors.{one_byte}
+use Rattle.response.proofs.inner.done_response.Goals as goal
+
+pub returns-in-Granted : goal.returns-in-Granted
+returns-in-Granted c =
+    sent_as _ _ _ _ _ (sent _ _ _ _ _ c.new.ensures.0
+    (one_byte _ _ _ _ _ c.new.ensures.0 (omega (arith, c.requires)) c.byte-c.ensures.0 c.byte-c.ensures.1))
+    (rw c.in-Granted.is)
+
+pub returns-in-Denied : goal.returns-in-Denied
+returns-in-Denied c =
+    sent_as _ _ _ _ _ c.error_response.ensures (rw c.in-Denied.is)

@@ -1,0 +1,34 @@
+-- `table_builder::inner::is_builder` meets its contract. On a table the last test decides, and the part that it looks
+-- at is all that follows the index (`tail`).
+-- Assumes nothing.
+use mathlib.Core.Bool.{true}
+use mathlib.Core.Path.{◌≡◌, sym, ap, ◌∙◌}
+use native.Mathlib.Omega.{arith}
+use borrow.Author.Tests.{not-true, not-false}
+use Rattle.table_view.specs.Rules.{accepts}
+use Rattle.wire.specs.Bytes.{zeros}
+use Rattle.table_builder.proofs.Laws.{no_table, by_zeros}
+use Rattle.table_view.proofs.Shape.{long, fits}
+use Rattle.wire.proofs.Sets.{tail}
+use Rattle.table_builder.proofs.inner.is_builder.Goals as goal
+
+ok : (c : goal.Else-not-is_table) →
+    accepts c.args.b.now ≡ true
+ok c = sym c.is_table.ensures ∙ not-false _ c.if-not-is_table.false
+
+pub returns-then-not-is_table : goal.returns-then-not-is_table
+returns-then-not-is_table c = no_table _ (sym c.is_table.ensures ∙ not-true _ c.if-not-is_table.true)
+
+pub values_base-from-requires : goal.values_base-from-requires
+values_base-from-requires c = long _ (ok c)
+
+pub slice_bounds-is_zero-count : goal.slice_bounds-is_zero-count
+slice_bounds-is_zero-count c = omega (arith, fits _ (ok c.before))
+
+pub slice_bounds-is_zero-start : goal.slice_bounds-is_zero-start
+slice_bounds-is_zero-start c = omega (arith, fits _ (ok c.before))
+
+pub returns : goal.returns
+returns c =
+    c.is_zero.ensures ∙ ap zeros (tail c.args.b.now c.values_base-from.result)
+    ∙ rw c.values_base-from.ensures.0 (by_zeros _ (ok c.before.before.before))

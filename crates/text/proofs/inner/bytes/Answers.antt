@@ -1,0 +1,31 @@
+use Prim.Native.Nat.{◌-◌}
+use native.Mathlib.Omega.{arith}
+use Rattle.text.proofs.Pieces.{going_start}
+use Rattle.text.proofs.Turns.{byte_short, byte_more, byte_end}
+use Rattle.text.proofs.inner.bytes.Goals as goal
+
+pub loop-i-init : goal.loop-i-init
+loop-i-init c = (omega arith, going_start _ _ _)
+
+pub bounds-d-i : goal.bounds-d-i
+bounds-d-i c = omega arith
+
+pub byte-next-requires : goal.byte-next-requires
+byte-next-requires c =
+    byte_short _ _ _ _ _ _ c.loop-i.invariant.1 c.requires c.loop-i-test.true
+
+pub overflow_add-i : goal.overflow_add-i
+overflow_add-i c = omega arith
+
+pub loop-i-smaller : goal.loop-i-smaller
+loop-i-smaller c = omega arith
+
+pub loop-i-preserved : goal.loop-i-preserved
+loop-i-preserved c =
+    (omega arith, byte_more _ _ _ _ _ _ c.loop-i.invariant.1 _ _ c.loop-i-test.true c.byte-next.ensures)
+
+pub shape_of-out : goal.shape_of-out
+shape_of-out c = c.loop-i.invariant.1.size
+
+pub returns : goal.returns
+returns c = byte_end _ _ _ _ _ _ c.loop-i.invariant.1 c.loop-i-test.false

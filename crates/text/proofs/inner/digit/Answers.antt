@@ -1,0 +1,12 @@
+-- `text::inner::digit` meets its contract: a digit, or a letter. Assumes nothing.
+use borrow.Author.Tests.{lt-ltb, le-ltb}
+use Rattle.text.specs.Hex.{digit_of}
+use Rattle.text.proofs.inner.digit.Goals as goal
+
+pub returns-then-n-lt10 : goal.returns-then-n-lt10
+unfolding digit_of
+returns-then-n-lt10 c = rw (lt-ltb _ _ c.if-n-lt10.true)
+
+pub returns-else-n-lt10 : goal.returns-else-n-lt10
+unfolding digit_of
+returns-else-n-lt10 c = rw (le-ltb _ _ c.if-n-lt10.false)
