@@ -13,16 +13,18 @@ use Rattle.table_builder.proofs.push.Goals as goal
 pub add-requires : goal.add-requires
 add-requires c =
     let a = adds _ _ _ _ (sym c.judge-plan.ensures ∙ c.in-Added.is) in
-    omega (arith, a.key, a.room)
+    record { in_bounds = omega (arith, a.key, a.room); table_bytes_in_bounds = omega (arith, a.key, a.room) }
 
 pub returns-in-Added : goal.returns-in-Added
-returns-in-Added c = (
-  ap told_pushed c.judge-plan.ensures,
-  rw (sym c.judge-plan.ensures ∙ c.in-Added.is) c.add.ensures,
-)
+returns-in-Added c =
+    (
+      ap told_pushed c.judge-plan.ensures,
+      rw (sym c.judge-plan.ensures ∙ c.in-Added.is) c.add.ensures,
+    )
 
 pub returns-in_default : goal.returns-in_default
-returns-in_default c = (
-  ap told_pushed c.judge-plan.ensures,
-  stays _ _ _ (λ e. miss (1 ∷ 2 ∷ 3 ∷ []) 0 tt (rw (c.judge-plan.ensures ∙ e) at c.in_default.keys2)),
-)
+returns-in_default c =
+    (
+      ap told_pushed c.judge-plan.ensures,
+      stays _ _ _ (λ e. miss (1 ∷ 2 ∷ 3 ∷ []) 0 tt (rw (c.judge-plan.ensures ∙ e) at c.in_default.keys2)),
+    )

@@ -19,7 +19,7 @@ loop-i-init c =
 pub entry-next-requires : goal.entry-next-requires
 entry-next-requires c =
     let all = entries_short _ _ c.count-n.ensures.0 c.requires.0 c.requires.1 _ c.heading-next.ensures.place in
-    ((c.requires.0, omega (arith, c.count-n.ensures.0, c.loop-i-test.true)), entry_short _ _ _ _ _ _ _ _ c.loop-i.invariant.1 all c.loop-i-test.true)
+    record { t_value = (c.requires.0, omega (arith, c.count-n.ensures.0, c.loop-i-test.true)); short = entry_short _ _ _ _ _ _ _ _ c.loop-i.invariant.1 all c.loop-i-test.true }
 
 pub overflow_add-i : goal.overflow_add-i
 overflow_add-i c = omega arith

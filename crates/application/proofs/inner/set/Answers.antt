@@ -7,8 +7,9 @@ use Rattle.attribute_walk.proofs.Halves.{ascending}
 use Rattle.model.proofs.Leaving.{listed}
 use Rattle.application.proofs.Calls.{nothing_set, wrong_length, value_set}
 use Rattle.application.proofs.inner.set.Goals as goal
+use Rattle.application.proofs.inner.set.Goals.{In-At}
 
-at : (c : goal.In-At-2) →
+at : (c : In-At) →
     place_of c.args.list.now c.args.handle ≡ At c.in-At.i
 at c = sym c.find_listed.ensures ∙ c.in-At.is
 
@@ -23,21 +24,21 @@ returns-in_default c =
     (sym c.find_listed.ensures ∙ c.in_default.is)
 
 pub is_wrong_length-requires : goal.is_wrong_length-requires
-is_wrong_length-requires c = listed _ _ _ (at c.before)
+is_wrong_length-requires c = listed _ _ _ (at (goal.at.is_wrong_length-requires c).In-At)
 
 pub returns-then-is_wrong_length : goal.returns-then-is_wrong_length
 returns-then-is_wrong_length c =
     let a = c.args in
-    wrong_length a.list.now a.store.now a.tables.now _ _ a.d.now _ (at c.before.before.before)
+    wrong_length a.list.now a.store.now a.tables.now _ _ a.d.now _ (at (goal.at.returns-then-is_wrong_length c).In-At)
     (sym c.if-is_wrong_length.true ∙ c.is_wrong_length.ensures)
 
 pub put_at-requires : goal.put_at-requires
 put_at-requires c =
-    (listed _ _ _ (at c.before.before.before.before.before.before), c.requires)
+    (listed _ _ _ (at (goal.at.put_at-requires c).In-At), c.requires)
 
 pub returns : goal.returns
 returns c =
     let a = c.args in
-    value_set a.list.now a.store.now a.tables.now _ _ a.d.now _ (at c.before.before.before.before.before.before.before.before.before.before.before.before)
+    value_set a.list.now a.store.now a.tables.now _ _ a.d.now _ (at (goal.at.returns c).In-At)
     (sym c.if-is_wrong_length.false ∙ c.is_wrong_length.ensures) _ c.accessed.result _ _ _ c.accessed.ensures
     c.put_at.ensures

@@ -1,7 +1,6 @@
 use mathlib.Core.Path.{sym, ◌∙◌}
 use Prim.Native.Nat.{◌-◌}
 use native.Mathlib.Omega.{arith}
-use borrow.Author.Tests.{not-true, not-false}
 use Rattle.attribute.proofs.Reading.{good_entry, bad_entry, no_entry, too_many, too_large, by_entries}
 use Rattle.attribute.proofs.rules.is_list.Goals as goal
 
@@ -26,7 +25,7 @@ entry_ok-requires c = omega arith
 pub returns-then-not-entry_ok : goal.returns-then-not-entry_ok
 returns-then-not-entry_ok c =
     sym (bad_entry c.args.list.now _ _ _ _ c.loop-i-test.true
-    (sym c.entry_ok.ensures ∙ not-true _ c.if-not-entry_ok.true)) ∙ c.loop-i.invariant
+    (sym c.entry_ok.ensures ∙ c.if-not-entry_ok.true)) ∙ c.loop-i.invariant
 
 pub offset_bounds-list-i-in-loop-i : goal.offset_bounds-list-i-in-loop-i
 offset_bounds-list-i-in-loop-i c = omega arith
@@ -49,7 +48,7 @@ loop-i-smaller c = omega arith
 pub loop-i-preserved : goal.loop-i-preserved
 loop-i-preserved c =
     rw (c.end_after-end.ensures, c.decode-a.ensures) (sym (good_entry c.args.list.now _ _ _ _
-    c.loop-i-test.true (sym c.entry_ok.ensures ∙ not-false _ c.if-not-entry_ok.false)) ∙ c.loop-i.invariant)
+    c.loop-i-test.true (sym c.entry_ok.ensures ∙ c.if-not-entry_ok.false)) ∙ c.loop-i.invariant)
 
 pub returns : goal.returns
 returns c =

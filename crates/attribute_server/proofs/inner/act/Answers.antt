@@ -7,9 +7,10 @@ use Rattle.state.specs.State.{State, lent, after_move}
 use Rattle.state.proofs.Keeping.{tables_read, eight_slots}
 use Rattle.admission.proofs.Admitting.{admitted, told_no, told_yes, left_no, left_yes}
 use Rattle.attribute_server.proofs.inner.act.Goals as goal
+use Rattle.attribute_server.proofs.inner.act.Goals.{Start}
 
 -- the state that is lent
-was : (c : goal.Start) → State
+was : (c : Start) → State
 was c = lent c.args.list.now c.args.store.now c.args.row.now c.args.tables.now
 
 pub returns-in-No : goal.returns-in-No
@@ -18,7 +19,7 @@ returns-in-No c =
     let d = sym c.admit.ensures ∙ c.in-No.is in (
       told_no _ _ _ d,
       left_no _ _ _ _ d,
-      ap (λ (s : State). s.tables) (left_no _ _ (was c.before.before.before.before.before.before) (after_move (was c.before.before.before.before.before.before) c.args.m) d),
+      ap (λ (s : State). s.tables) (left_no _ _ (was (goal.at.returns-in-No c).Start) (after_move (was (goal.at.returns-in-No c).Start) c.args.m) d),
     )
 
 pub settle-requires : goal.settle-requires
@@ -33,7 +34,7 @@ returns-then-m c =
       rw c.if-m.true (told_yes _ _ d),
       left_yes _ _ _ d,
       c.settle.ensures ∙ ap (λ (s : State). s.tables)
-          (left_yes _ (was c.before.before.before.before.before.before.before.before) (after_move (was c.before.before.before.before.before.before.before.before) c.args.m) d),
+          (left_yes _ (was (goal.at.returns-then-m c).Start) (after_move (was (goal.at.returns-then-m c).Start) c.args.m) d),
     )
 
 pub returns : goal.returns
@@ -43,5 +44,5 @@ returns c =
       rw c.if-m.false (told_yes _ _ d),
       left_yes _ _ _ d,
       c.settle.ensures ∙ ap (λ (s : State). s.tables)
-          (left_yes _ (was c.before.before.before.before.before.before.before.before) (after_move (was c.before.before.before.before.before.before.before.before) c.args.m) d),
+          (left_yes _ (was (goal.at.returns c).Start) (after_move (was (goal.at.returns c).Start) c.args.m) d),
     )

@@ -14,33 +14,32 @@ use Rattle.admission.proofs.Admitting.{admitted, room_enough}
 use Rattle.attribute_server.proofs.Admitting.{ready_given, with_record, without_record, request_fits}
 use Rattle.attribute_server.proofs.Processing.{process_refused, process_answered}
 use Rattle.attribute_server.proofs.request.process.Goals as goal
+use Rattle.attribute_server.proofs.request.process.Goals.{Start}
 
 -- the state, what waits at the link, and the request
-abbrev was : (c : goal.Start) → State
+abbrev was : (c : Start) → State
 was c = lent c.args.list.now c.args.store.now c.args.row.now c.args.tables.now
 
-abbrev waits : (c : goal.Start) → Waiting
+abbrev waits : (c : Start) → Waiting
 waits c = waiting c.args.p c.args.bytes.now
 
-abbrev asked : (c : goal.Start) → Query
+abbrev asked : (c : Start) → Query
 asked c = query c.args.who c.args.link c.args.rq c.args.d.now
 
 pub returns-in-No : goal.returns-in-No
 returns-in-No c =
-    process_refused (was c.before.before.before.before.before.before.before.before) (waits c.before.before.before.before.before.before.before.before) (asked c.before.before.before.before.before.before.before.before) c.args.out.now c.with_record.result _
+    process_refused (was (goal.at.returns-in-No c).Start) (waits (goal.at.returns-in-No c).Start) (asked (goal.at.returns-in-No c).Start) c.args.out.now c.with_record.result _
     (sym c.admit_request.ensures ∙ c.in-No.is) c.with_record.ensures.0
     c.with_record.ensures.1
 
 pub answer-requires : goal.answer-requires
 answer-requires c =
     let a = c.args in
-    let w = admitted _ _ _ (sym c.admit_request.ensures ∙ c.in_default.is) in (
-      (
+    let w = admitted _ _ _ (sym c.admit_request.ensures ∙ c.in_default.is) in
+    record { ready_to_store = (
         rw c.slot_for-slot.ensures (ready_given _ a.who (without_record _ _ w.right) a.rq),
         with_record _ _ w.right,
-      ),
-      (search rules, omega (arith, room_enough _ _ _ w.buffer), request_fits _ _ _ w.buffer),
-    )
+      ); bytes_len = (search rules, omega (arith, room_enough _ _ _ w.buffer), request_fits _ _ _ w.buffer) }
 
 pub returns : goal.returns
 returns c =
@@ -48,7 +47,7 @@ returns c =
     let e = rw c.slot_for-slot.ensures at c.answer.ensures in
     let w = pending_of a.p a.bytes.now in
     let slot = slot_of (row_of a.row.now) a.who in
-    process_answered (was c.before.before.before.before.before.before.before.before.before.before.before.before.before.before.before.before.before.before.before) (waits c.before.before.before.before.before.before.before.before.before.before.before.before.before.before.before.before.before.before.before) (asked c.before.before.before.before.before.before.before.before.before.before.before.before.before.before.before.before.before.before.before) a.out.now c.answer.result _ _ _
+    process_answered (was (goal.at.returns c).Start) (waits (goal.at.returns c).Start) (asked (goal.at.returns c).Start) a.out.now c.answer.result _ _ _
     (sym c.admit_request.ensures ∙ c.in_default.is) e.0 e.1
-    (e.2 (row_of a.row.now) ∙ lent_given a.link (was c.before.before.before.before.before.before.before.before.before.before.before.before.before.before.before.before.before.before.before) w a.d.now slot a.rq)
+    (e.2 (row_of a.row.now) ∙ lent_given a.link (was (goal.at.returns c).Start) w a.d.now slot a.rq)
     (rw (told_given a.link a.list.now a.store.now a.tables.now w (length a.out.now) a.d.now slot a.rq) at e.3)

@@ -1,20 +1,21 @@
 -- `attribute_walk::walk::may_be` meets its contract. Assumes nothing.
 use Rattle.attribute_walk.proofs.Walks.{may_long, may_short}
-use borrow.Author.Tests.{not-true, not-false}
 use mathlib.Core.Path.{sym, ap, ◌∙◌}
 use Prim.Native.Nat.{ℕ}
 use lib.Dec.{eqb}
 use Rattle.attribute_walk.proofs.walk.may_be.Goals as goal
 
 pub returns-then-not-is_short : goal.returns-then-not-is_short
-returns-then-not-is_short c = (
-  may_long _ _ (sym c.is_short.ensures ∙ not-true _ c.if-not-is_short.true),
-  is-short-requires c.before.before c.is_short.lifetimes,
-)
+returns-then-not-is_short c =
+    (
+      may_long _ _ (sym c.is_short.ensures ∙ c.if-not-is_short.true),
+      is-short-requires c.before.before c.is_short.lifetimes,
+    )
 
 pub returns : goal.returns
-returns c = (
-  ap (λ (x : ℕ). eqb x c.args.value) c.get.ensures ∙ may_short _ _
-      (sym c.is_short.ensures ∙ not-false _ c.if-not-is_short.false),
-  is-short-requires c.before.before.before.before.before c.is_short.lifetimes,
-)
+returns c =
+    (
+      ap (λ (x : ℕ). eqb x c.args.value) c.get.ensures ∙ may_short _ _
+          (sym c.is_short.ensures ∙ c.if-not-is_short.false),
+      is-short-requires c.before.before.before.before.before c.is_short.lifetimes,
+    )

@@ -8,8 +8,9 @@ use Rattle.client_att_table.proofs.Planning.{absent, bad_offset, bad_length, goe
 use Rattle.table_view.proofs.Search.{placed}
 use Rattle.table_view.proofs.Shape.{fits, entry_at}
 use Rattle.client_att_table.proofs.inner.decide.Goals as goal
+use Rattle.client_att_table.proofs.inner.decide.Goals.{In-At}
 
-at : (c : goal.In-At-2) →
+at : (c : In-At) →
     index_place c.args.t.now c.args.key.0 ≡ At c.in-At.p
 at c = sym c.find.ensures ∙ c.in-At.is
 
@@ -21,23 +22,23 @@ returns-in_default c = absent _ _ _ _ (sym c.find.ensures ∙ c.in_default.is)
 
 pub value_len-requires : goal.value_len-requires
 value_len-requires c =
-    let i = (placed _ _ _ (at c.before)).inside in
+    let i = (placed _ _ _ (at (goal.at.value_len-requires c).In-At)).inside in
     let e = entry_at _ c.requires.0 _ i in
-    omega (arith, fits _ c.requires.0)
+    record { t_in_bounds = omega (arith, fits _ c.requires.0); p_in_bounds = omega (arith, fits _ c.requires.0) }
 
 pub returns-then-value_len-offset : goal.returns-then-value_len-offset
 returns-then-value_len-offset c =
-    bad_offset _ _ _ _ _ (at c.before.before.before) (omega arith)
+    bad_offset _ _ _ _ _ (at (goal.at.returns-then-value_len-offset c).In-At) (omega arith)
 
 pub capacity-requires : goal.capacity-requires
 capacity-requires c =
-    let i = (placed _ _ _ (at c.before.before.before)).inside in
+    let i = (placed _ _ _ (at (goal.at.capacity-requires c).In-At)).inside in
     omega (arith, fits _ c.requires.0)
 
 pub returns-then-capacity-offset : goal.returns-then-capacity-offset
 returns-then-capacity-offset c =
-    bad_length _ _ _ _ _ (at c.before.before.before.before.before) (omega arith) (omega arith)
+    bad_length _ _ _ _ _ (at (goal.at.returns-then-capacity-offset c).In-At) (omega arith) (omega arith)
 
 pub returns : goal.returns
 returns c =
-    goes_in _ _ _ _ _ (at c.before.before.before.before.before) (omega arith) (omega arith)
+    goes_in _ _ _ _ _ (at (goal.at.returns c).In-At) (omega arith) (omega arith)

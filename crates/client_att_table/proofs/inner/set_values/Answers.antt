@@ -61,8 +61,7 @@ key_at-requires c =
     omega (arith, fits _ c.loop-i.invariant.ok, c.loop-i.invariant.count)
 
 pub walk_from-stop-requires : goal.walk_from-stop-requires
-walk_from-stop-requires c =
-    (c.requires.1, rw c.key_at.ensures (c.loop-i.invariant.comes c.loop-i-test.true))
+walk_from-stop-requires c = record { t_value = c.requires.1; comes_to = rw c.key_at.ensures (c.loop-i.invariant.comes c.loop-i-test.true) }
 
 pub held-requires : goal.held-requires
 held-requires c =

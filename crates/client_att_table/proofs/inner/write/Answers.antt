@@ -9,13 +9,14 @@ use Rattle.client_att_table.proofs.Planning.{admitted}
 use Rattle.table_view.proofs.Shape.{entry_at}
 use Rattle.wire.proofs.Sets.{word_below}
 use Rattle.client_att_table.proofs.inner.write.Goals as goal
+use Rattle.client_att_table.proofs.inner.write.Goals.{In-Into, In-Not}
 
-into : (c : goal.In-Into-2) →
+into : (c : In-Into) →
     plan_of c.args.t.now c.args.key.0 c.args.offset (length c.args.d.now) ≡ Into
     c.in-Into.p
 into c = sym c.decide.ensures ∙ c.in-Into.is
 
-not : (c : goal.In-Not-2) →
+not : (c : In-Not) →
     plan_of c.args.t.now c.args.key.0 c.args.offset (length c.args.d.now) ≡ Not
     c.in-Not.w
 not c = sym c.decide.ensures ∙ c.in-Not.is
@@ -27,14 +28,14 @@ decide-requires c =
 pub store-requires : goal.store-requires
 store-requires c =
     let t = c.args.t.now in
-    let g = admitted _ _ _ _ _ (into c.before.before) in
+    let g = admitted _ _ _ _ _ (into (goal.at.store-requires c).In-Into) in
     let e = entry_at _ c.requires _ g.place.inside in
     let v = word_below t 2 (c.slice_known-1.given 2).fits (c.slice_known-1.given 3).fits in
-    ((c.requires, g.place.inside), (g.room, omega arith))
+    record { t_value = (c.requires, g.place.inside); d_bound = (g.room, omega arith) }
 
 pub returns-in-Into : goal.returns-in-Into
 returns-in-Into c =
-    rw (into c.before.before.before.before.before) (refl, c.store.ensures)
+    rw (into (goal.at.returns-in-Into c).In-Into) (refl, c.store.ensures)
 
 pub returns-in-Not : goal.returns-in-Not
-returns-in-Not c = rw (not c.before) (refl, refl)
+returns-in-Not c = rw (not (goal.at.returns-in-Not c).In-Not) (refl, refl)

@@ -13,20 +13,21 @@ use Rattle.numbers.specs.Reply.{reply_to}
 use Rattle.edge.proofs.Joining.{joined}
 use borrow.Author.Rules.{rules}
 use Rattle.edge.proofs.inner.connect.Goals as goal
+use Rattle.edge.proofs.inner.connect.Goals.{After-bytes-1, After-join-m, Start}
 
-eight : (c : goal.Start) → length c.args.row ≡ slot_count
+eight : (c : Start) → length c.args.row ≡ slot_count
 eight c = search rules
 
-made : (c : goal.After-join-m) → let a = c.args in c.join-m.result ≡ connecting a.row a.who
+made : (c : After-join-m) → let a = c.args in c.join-m.result ≡ connecting a.row a.who
 made c =
     c.join-m.ensures ∙ join_is _ _ _ _ _ c.requires.0 c.requires.1 (sym (eight c.before.before))
 
-in_bytes : (c : goal.After-bytes-1) →
+in_bytes : (c : After-bytes-1) →
     c.join-m.result ≡ connecting (row_of c.encode_row-bytes.result) c.args.who
 in_bytes c = rw c.encode_row-bytes.ensures (made c.before.before)
 
 pub act-requires : goal.act-requires
-act-requires c = joins_inside c.encode_row-bytes.result _ _ (in_bytes c.before)
+act-requires c = joins_inside c.encode_row-bytes.result _ _ (in_bytes (goal.at.act-requires c).After-bytes-1)
 
 pub returns : goal.returns
 returns c =
@@ -36,4 +37,4 @@ returns c =
     (record { reply = n.0; place = n.1; slot = n.2 }) c.encode_row-bytes.result _ c.encode_row-bytes.ensures
     c.act.ensures in
     let s = state a.list.now a.store.now a.row a.tables.now in
-    (w.0 ∙ ap (λ (m : Move). reply_to (move_told s a.who m)) (made c.before.before.before.before.before.before), w.1 ∙ ap (move_left s a.who) (made c.before.before.before.before.before.before))
+    (w.0 ∙ ap (λ (m : Move). reply_to (move_told s a.who m)) (made (goal.at.returns c).After-join-m), w.1 ∙ ap (move_left s a.who) (made (goal.at.returns c).After-join-m))

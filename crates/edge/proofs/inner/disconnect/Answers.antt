@@ -14,14 +14,15 @@ use Rattle.numbers.specs.Reply.{reply_to}
 use Rattle.numbers.specs.Request.{is_set}
 use Rattle.edge.proofs.Joining.{joined}
 use Rattle.edge.proofs.inner.disconnect.Goals as goal
+use Rattle.edge.proofs.inner.disconnect.Goals.{After-encode_row-bytes, After-part-m}
 
-own-bytes : (c : goal.After-encode_row-bytes)
+own-bytes : (c : After-encode_row-bytes)
     → let a = c.args in
     a.own ≡ slot_of (row_of c.encode_row-bytes.result) a.who
 own-bytes c =
     c.requires ∙ ap (λ (row : List Slot). slot_of row c.args.who) (sym c.encode_row-bytes.ensures)
 
-in_bytes : (c : goal.After-part-m) →
+in_bytes : (c : After-part-m) →
     let a = c.args in
     c.part-m.result ≡ leaving (row_of c.encode_row-bytes.result) a.who (is_set a.bonded)
 in_bytes c = c.part-m.ensures ∙ part_is _ _ _ _ (own-bytes c.before.before)
@@ -30,11 +31,11 @@ pub part-m-requires : goal.part-m-requires
 part-m-requires c =
     let a = c.args in
     rw (length_row c.encode_row-bytes.result) at (found_inside (row_of c.encode_row-bytes.result) a.who _
-    (own-bytes c.before))
+    (own-bytes (goal.at.part-m-requires c).After-encode_row-bytes))
 
 pub act-requires : goal.act-requires
 act-requires c =
-    leaves_inside c.encode_row-bytes.result _ _ _ (in_bytes c.before.before)
+    leaves_inside c.encode_row-bytes.result _ _ _ (in_bytes (goal.at.act-requires c).After-part-m)
 
 pub returns : goal.returns
 returns c =
@@ -44,5 +45,5 @@ returns c =
     (record { reply = n.0; place = n.1; slot = n.2 }) c.encode_row-bytes.result _ c.encode_row-bytes.ensures
     c.act.ensures in
     let s = state a.list.now a.store.now a.row a.tables.now in
-    let m = rw c.encode_row-bytes.ensures at (in_bytes c.before.before.before.before.before) in
+    let m = rw c.encode_row-bytes.ensures at (in_bytes (goal.at.returns c).After-part-m) in
     (w.0 ∙ ap (λ (m : Move). reply_to (move_told s a.who m)) m, w.1 ∙ ap (move_left s a.who) m)

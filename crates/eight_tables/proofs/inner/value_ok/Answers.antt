@@ -3,7 +3,6 @@ use Rattle.eight_tables.proofs.Values.{all_fixed, all_within}
 use Rattle.table_builder.proofs.Laws.{is_table}
 use Rattle.table_view.proofs.Cases.{head_var}
 use Rattle.table_view.proofs.Shape.{long, fits, entry_at}
-use borrow.Author.Tests.{not-true, not-false}
 use mathlib.Core.Path.{sym, ◌∙◌}
 use native.Mathlib.Omega.{arith}
 use Rattle.eight_tables.proofs.inner.value_ok.Goals as goal
@@ -16,7 +15,7 @@ pub returns-then-not-is_variable : goal.returns-then-not-is_variable
 returns-then-not-is_variable c =
     all_fixed c.args.fresh.now c.args.tables.now c.requires.tables_len.1 (is_table _ c.requires.tables_len.2)
     c.requires.tables_value.0 c.requires.tables_value.1 c.args.p.0 c.requires.tables_len.3
-    (sym c.is_variable.ensures ∙ not-true _ c.if-not-is_variable.true)
+    (sym c.is_variable.ensures ∙ c.if-not-is_variable.true)
 
 pub values_base-requires : goal.values_base-requires
 values_base-requires c =
@@ -42,7 +41,7 @@ at_most-requires c =
         c.offset_at.ensures.0,
         e.room,
         e.within,
-        head_var _ _ (sym c.is_variable.ensures ∙ not-false _ c.if-not-is_variable.false),
+        head_var _ _ (sym c.is_variable.ensures ∙ c.if-not-is_variable.false),
       ),
     )
 
@@ -51,4 +50,4 @@ returns c =
     c.at_most.ensures ∙ rw (c.values_base.ensures.0, c.offset_at.ensures.0, c.capacity.ensures.0)
     (all_within c.args.fresh.now c.args.tables.now c.requires.tables_len.1 (is_table _ c.requires.tables_len.2)
     c.requires.tables_value.0 c.requires.tables_value.1 c.args.p.0 c.requires.tables_len.3
-    (sym c.is_variable.ensures ∙ not-false _ c.if-not-is_variable.false))
+    (sym c.is_variable.ensures ∙ c.if-not-is_variable.false))

@@ -2,7 +2,6 @@
 use Rattle.eight_tables.proofs.Columns.{bad_part, by_part}
 use Rattle.wire.proofs.Tests.{split}
 use mathlib.Core.List.{[]}
-use borrow.Author.Tests.{not-true, not-false}
 use native.Mathlib.Omega.{arith}
 use Prim.Native.Nat.{◌+◌, ◌≤◌, ◌<◌}
 use mathlib.Core.Logic.{inl, inr, ⊎_elim}
@@ -10,11 +9,11 @@ use mathlib.Core.Path.{sym, ◌∙◌}
 use Rattle.eight_tables.proofs.inner.zero_from.Goals as goal
 
 pub returns-then-not-zero_part : goal.returns-then-not-zero_part
-returns-then-not-zero_part c = bad_part [] _ _ _ _ _ (omega arith) (omega arith) (sym c.zero_part-2.ensures ∙ not-true _ c.if-not-zero_part.true)
+returns-then-not-zero_part c = bad_part [] _ _ _ _ _ (omega arith) (omega arith) (sym c.zero_part-2.ensures ∙ c.if-not-zero_part.true)
 
 pub returns : goal.returns
 returns c =
     c.zero_part-3.ensures ∙ by_part [] _ c.args.from _ _ _ _ _
     (λ x a b. ⊎_elim (λ (l : x < c.args.from + 16). inl (a, omega arith))
     (λ (l : c.args.from + 16 ≤ x). inr (omega arith, omega arith)) (split x (c.args.from + 16))) (omega arith)
-    (omega arith) (sym c.zero_part-2.ensures ∙ not-false _ c.if-not-zero_part.false)
+    (omega arith) (sym c.zero_part-2.ensures ∙ c.if-not-zero_part.false)

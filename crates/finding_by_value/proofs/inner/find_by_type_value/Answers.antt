@@ -15,14 +15,15 @@ use Rattle.model.specs.Answer.{is_bad_range}
 use Rattle.model.proofs.Sending.{sent_as, bad_range, good_range, in_order}
 use Rattle.finding_by_value.proofs.Founds.{find_room, found_rows, rows_sent, error_sent}
 use Rattle.finding_by_value.proofs.inner.find_by_type_value.Goals as goal
+use Rattle.finding_by_value.proofs.inner.find_by_type_value.Goals.{After-put_found-c, Else-is_bad}
 
 -- the range is good
-good : (c : goal.Else-is_bad) →
+good : (c : Else-is_bad) →
     is_bad_range c.args.g ≡ false
 good c = sym c.is_bad.ensures ∙ c.if-is_bad.false
 
 -- the rows that the loop writes, by the room that is left
-abbrev rows : goal.After-put_found-c → ℕ → List ℕ
+abbrev rows : After-put_found-c → ℕ → List ℕ
 rows c =
     let at_byte = c.before.before.before.before.before.before in
     let at-is-bad = at_byte.before.before.before.before in
@@ -39,28 +40,25 @@ stretch-p-requires c =
     ascending _ _ c.requires.0
 
 pub put_found-c-requires : goal.put_found-c-requires
-put_found-c-requires c = (
-  (
-    ordered _ _ _ _ c.stretch-p.ensures.0 c.stretch-p.ensures.1 (in_order _ (good c.before.before.before.before.before.before.before.before)),
-    c.stretch-p.ensures.1.inside,
-    short_word _,
-  ),
-  (
-    c.requires.0,
-    find_room _ _ _ _ (omega (arith, c.requires.1)) c.new.ensures.0 c.byte-c.ensures.0
-        c.byte-c.ensures.1,
-  ),
-)
+put_found-c-requires c = record { from_le_to = (
+        ordered _ _ _ _ c.stretch-p.ensures.0 c.stretch-p.ensures.1 (in_order _ (good (goal.at.put_found-c-requires c).Else-is_bad)),
+        c.stretch-p.ensures.1.inside,
+        short_word _,
+      ); store_value = (
+        c.requires.0,
+        find_room _ _ _ _ (omega (arith, c.requires.1)) c.new.ensures.0 c.byte-c.ensures.0
+            c.byte-c.ensures.1,
+      ) }
 
 pub returns-then-c-eq1 : goal.returns-then-c-eq1
 returns-then-c-eq1 c =
     sent_as _ _ _ _ _ (error_sent _ _ _ _ _ _ _ (rows c.before.before.before.before.before.before.before.before) (omega (arith, c.requires.1)) c.new.ensures.0
     c.byte-c.ensures.0 c.byte-c.ensures.1 (found_rows _ _ _ _ _ _ _ c.stretch-p.ensures.0
     c.stretch-p.ensures.1 _ _ _ _ c.put_found-c.ensures) c.if-c-eq1.true _ _
-    c.error_response-then-c-eq1.ensures) (good_range _ _ (good c.before.before.before.before.before.before.before.before.before.before.before.before.before.before.before.before.before))
+    c.error_response-then-c-eq1.ensures) (good_range _ _ (good (goal.at.returns-then-c-eq1 c).Else-is_bad))
 
 pub returns : goal.returns
 returns c =
     sent_as _ _ _ _ _ (rows_sent _ _ _ _ _ _ _ (rows c.before.before.before.before) (omega (arith, c.requires.1)) c.new.ensures.0
     c.byte-c.ensures.0 c.byte-c.ensures.1 (found_rows _ _ _ _ _ _ _ c.stretch-p.ensures.0
-    c.stretch-p.ensures.1 _ _ _ _ c.put_found-c.ensures) c.if-c-eq1.false) (good_range _ _ (good c.before.before.before.before.before.before.before.before.before.before.before.before.before))
+    c.stretch-p.ensures.1 _ _ _ _ c.put_found-c.ensures) c.if-c-eq1.false) (good_range _ _ (good (goal.at.returns c).Else-is_bad))

@@ -16,7 +16,7 @@ append_span-c-requires c =
     let a = c.args in
     let i = rw (← c.locate_value.ensures) at (value_inside a.store.now a.table.now c.requires.1.table
     a.list.now c.requires.1.right a.i c.requires.0) in
-    (omega (arith, c.least-n.ensures, c.new.ensures.0), rw c.in-Here.is at i)
+    record { n_in_bounds = omega (arith, c.least-n.ensures, c.new.ensures.0); len_in_bounds = rw c.in-Here.is at i }
 
 pub returns-in-Not : goal.returns-in-Not
 returns-in-Not c =

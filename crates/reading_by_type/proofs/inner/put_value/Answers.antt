@@ -5,8 +5,7 @@ use native.Mathlib.Omega.{arith}
 use Rattle.reading_by_type.proofs.inner.put_value.Goals as goal
 
 pub append_span-requires : goal.append_span-requires
-append_span-requires c =
-    ((behind_lead _ _ _ _ _ _ _ _ c.requires.form_in_bounds c.put_lead-c.ensures, omega arith), c.requires.i_in_bounds.1)
+append_span-requires c = record { n_in_bounds = (behind_lead _ _ _ _ _ _ _ _ c.requires.form_in_bounds c.put_lead-c.ensures, omega arith); len_in_bounds = c.requires.i_in_bounds.1 }
 
 pub returns : goal.returns
 returns c =

@@ -10,15 +10,16 @@ use Rattle.attribute_walk.proofs.Walks.{found_late, found_early, first_wanted, n
 use Rattle.model.proofs.Sending.{sent_as, bad_range, good_range}
 use Rattle.reading_by_type.proofs.Lists.{cut_limit, none_found, first_code, first_value, header_fits, sent_rows}
 use Rattle.reading_by_type.proofs.inner.read_by.Goals as goal
+use Rattle.reading_by_type.proofs.inner.read_by.Goals.{In-At}
 
 -- the place that was found lies in the stretch
-early : (c : goal.In-At-2) →
+early : (c : In-At) →
     c.in-At.first < c.stretch-p.result.to
 early c =
     found_early _ c.args.list.now _ c.stretch-p.result.from c.stretch-p.ensures.1.inside _
     (sym c.find_type.ensures ∙ c.in-At.is)
 
-late : (c : goal.In-At-2) →
+late : (c : In-At) →
     c.stretch-p.result.from ≤ c.in-At.first
 late c =
     found_late _ c.args.list.now _ c.stretch-p.result.from c.stretch-p.ensures.1.inside _
@@ -41,11 +42,11 @@ returns-in_default c =
 
 pub locate_at-requires : goal.locate_at-requires
 locate_at-requires c =
-    (omega (arith, early c.before, c.stretch-p.ensures.1.inside), c.requires.0.table)
+    (omega (arith, early (goal.at.locate_at-requires c).In-At, c.stretch-p.ensures.1.inside), c.requires.0.table)
 
 pub handle_at-h-requires : goal.handle_at-h-requires
 handle_at-h-requires c =
-    omega (arith, early c.before.before.before.before.before, c.stretch-p.ensures.1.inside)
+    omega (arith, early (goal.at.handle_at-h-requires c).In-At, c.stretch-p.ensures.1.inside)
 
 pub overflow_add-size : goal.overflow_add-size
 overflow_add-size c =
@@ -68,24 +69,21 @@ overflow_cast-size c =
     )
 
 pub put_list-c-requires : goal.put_list-c-requires
-put_list-c-requires c = (
-  (
-    omega (arith, early c.before.before.before.before.before.before.before.before.before.before.before.before.before.before.before.before.before),
-    c.stretch-p.ensures.1.inside,
-    ap (λ (x : ShortForm). x.value) c.short_of-short.ensures,
-  ),
-  (
-    c.requires.0,
-    header_fits _ _ _ _ _ _ _ _ (omega (arith, c.requires.1)) c.new.ensures.0 c.byte-c.ensures.0
-        c.byte-c.ensures.1 c.byte-c-in-Here.ensures.0 c.byte-c-in-Here.ensures.1,
-    omega (
-      arith,
-      cut_limit c.args.form (length c.args.out.now - 2) c.in-Here.s.len,
-      c.cut-size.ensures,
-    ),
-    omega (arith, c.requires.2),
-  ),
-)
+put_list-c-requires c = record { from_le_to = (
+        omega (arith, early (goal.at.put_list-c-requires c).In-At),
+        c.stretch-p.ensures.1.inside,
+        ap (λ (x : ShortForm). x.value) c.short_of-short.ensures,
+      ); ready_to_read = (
+        c.requires.0,
+        header_fits _ _ _ _ _ _ _ _ (omega (arith, c.requires.1)) c.new.ensures.0 c.byte-c.ensures.0
+            c.byte-c.ensures.1 c.byte-c-in-Here.ensures.0 c.byte-c-in-Here.ensures.1,
+        omega (
+          arith,
+          cut_limit c.args.form (length c.args.out.now - 2) c.in-Here.s.len,
+          c.cut-size.ensures,
+        ),
+        omega (arith, c.requires.2),
+      ) }
 
 pub returns-in-Not : goal.returns-in-Not
 returns-in-Not c =
@@ -100,7 +98,7 @@ returns-in-Here c =
     c.byte-c.ensures.1 c.byte-c-in-Here.ensures.0 c.byte-c-in-Here.ensures.1 _ _ _ _ _ _
     (ap (λ (x : ℕ). c.cut-size.result + x) c.extra.ensures.0)
     (c.put_list-c.ensures _
-    (picks_later _ _ _ _ _ _ (late c.before.before.before.before.before.before.before.before.before.before.before.before.before.before.before.before.before.before.before.before) (picks_type _ _ _ _ c.stretch-p.ensures.0 c.stretch-p.ensures.1 _)))
+    (picks_later _ _ _ _ _ _ (late (goal.at.returns-in-Here c).In-At) (picks_type _ _ _ _ c.stretch-p.ensures.0 c.stretch-p.ensures.1 _)))
     (first_value _ _ _ _ _ _ _ _ _ (first_wanted _ _ _ _ c.stretch-p.ensures.0 c.stretch-p.ensures.1 _ _
     (sym c.find_type.ensures ∙ c.in-At.is)) _ c.locate_at.ensures c.requires.0 _
     c.in-Here.is _ c.cut-size.ensures ∙ good_range _ _ (sym c.is_bad.ensures ∙ c.if-is_bad.false))

@@ -16,8 +16,7 @@ find_by_type_value-n-requires c =
     (c.requires.ready_to_store.0.right, omega (arith, c.requires.bytes_len.1))
 
 pub change-requires : goal.change-requires
-change-requires c =
-    (c.requires.ready_to_store, (c.requires.bytes_len.0, omega (arith, c.requires.bytes_len.1), rw c.in-Change.is at c.requires.bytes_len.2))
+change-requires c = record { ready_to_store = c.requires.ready_to_store; bytes_len = (c.requires.bytes_len.0, omega (arith, c.requires.bytes_len.1), rw c.in-Change.is at c.requires.bytes_len.2) }
 
 pub returns-in-Ask : goal.returns-in-Ask
 returns-in-Ask c =

@@ -3,7 +3,6 @@ use mathlib.Core.List.{[]}
 use Prim.Native.Nat.{◌<◌, ◌-◌}
 use native.Mathlib.Omega.{arith}
 use lib.ListN.{length, get_or}
-use borrow.Author.Tests.{not-true, not-false}
 use Rattle.peers.specs.Bytes.{row_of}
 use Rattle.peers.specs.Slots.{no_slot}
 use Rattle.peers.specs.declared.Slot.{Slot}
@@ -11,9 +10,10 @@ use Rattle.peers.proofs.Rows.{length_row, row_at}
 use Rattle.state.specs.Clear.{clear_ok}
 use Rattle.state.proofs.Testing.{next_slot, bad_slot, last_slot}
 use Rattle.state.proofs.inner.clears_ok.Goals as goal
+use Rattle.state.proofs.inner.clears_ok.Goals.{After-clear_ok}
 
 -- the slot that was decoded is the row's
-tested : (c : goal.After-clear_ok) →
+tested : (c : After-clear_ok) →
     clear_ok c.args.base c.args.end (get_or (row_of c.args.row.now) c.loop-i.i no_slot)
     (get_or c.args.tables.now c.loop-i.i []) ≡ c.clear_ok.result
 tested c =
@@ -46,7 +46,7 @@ pub returns-then-not-clear_ok : goal.returns-then-not-clear_ok
 returns-then-not-clear_ok c =
     bad_slot _ _ (row_of c.args.row.now) _ _ _ c.loop-i.invariant.1
     (omega (arith, length_row c.args.row.now, c.requires.3)) (omega arith)
-    (tested c.before ∙ not-true _ c.if-not-clear_ok.true)
+    (tested (goal.at.returns-then-not-clear_ok c).After-clear_ok ∙ c.if-not-clear_ok.true)
 
 pub overflow_add-i : goal.overflow_add-i
 overflow_add-i c = omega arith
@@ -55,12 +55,13 @@ pub loop-i-smaller : goal.loop-i-smaller
 loop-i-smaller c = omega arith
 
 pub loop-i-preserved : goal.loop-i-preserved
-loop-i-preserved c = (
-  omega arith,
-  next_slot _ _ (row_of c.args.row.now) _ _ _ c.loop-i.invariant.1
-      (omega (arith, length_row c.args.row.now, c.requires.3)) (omega arith)
-      (tested c.before ∙ not-false _ c.if-not-clear_ok.false),
-)
+loop-i-preserved c =
+    (
+      omega arith,
+      next_slot _ _ (row_of c.args.row.now) _ _ _ c.loop-i.invariant.1
+          (omega (arith, length_row c.args.row.now, c.requires.3)) (omega arith)
+          (tested (goal.at.loop-i-preserved c).After-clear_ok ∙ c.if-not-clear_ok.false),
+    )
 
 pub returns : goal.returns
 returns c =

@@ -2,7 +2,7 @@ use mathlib.Core.Bool.{true, false}
 use mathlib.Core.Path.{◌≡◌, sym, ◌∙◌}
 use Prim.Native.Nat.{◌-◌}
 use native.Mathlib.Omega.{arith}
-use borrow.Author.Tests.{not-true, not-false, leb-true, leb-false}
+use borrow.Author.Tests.{leb-true, leb-false}
 use Rattle.wire.specs.Size.{table_bytes}
 use Rattle.attribute.proofs.Shape.{entry}
 use Rattle.state.proofs.Laying.{none_laid, no_room, one_laid, all_fits, all_laid}
@@ -29,7 +29,7 @@ lay_entry-requires c =
 
 pub returns-then-not-lay_entry : goal.returns-then-not-lay_entry
 returns-then-not-lay_entry c =
-    let f = leb-false _ table_bytes (sym c.lay_entry.ensures.0 ∙ not-true _ c.if-not-lay_entry.true) in (
+    let f = leb-false _ table_bytes (sym c.lay_entry.ensures.0 ∙ c.if-not-lay_entry.true) in (
       no_room c.args.list.now _ c.requires.0 _ _ c.loop-i.invariant c.loop-i-test.true
           (rw (← c.decode.ensures) f),
       λ (t : false ≡ true). cc,
@@ -43,13 +43,14 @@ loop-i-smaller c = omega arith
 
 pub loop-i-preserved : goal.loop-i-preserved
 loop-i-preserved c =
-    let y = not-false _ c.if-not-lay_entry.false in
+    let y = c.if-not-lay_entry.false in
     let f = leb-true _ table_bytes (sym c.lay_entry.ensures.0 ∙ y) in
     one_laid c.args.list.now _ c.requires.0 _ _ c.loop-i.invariant c.loop-i-test.true
     (rw (← c.decode.ensures) f) _ (c.lay_entry.ensures.1 y ∙ rw c.decode.ensures)
 
 pub returns : goal.returns
-returns c = (
-  all_fits c.args.list.now _ c.requires.0 _ _ c.loop-i.invariant c.loop-i-test.false,
-  λ t. all_laid c.args.list.now _ c.requires.0 _ _ c.loop-i.invariant c.loop-i-test.false,
-)
+returns c =
+    (
+      all_fits c.args.list.now _ c.requires.0 _ _ c.loop-i.invariant c.loop-i-test.false,
+      λ t. all_laid c.args.list.now _ c.requires.0 _ _ c.loop-i.invariant c.loop-i-test.false,
+    )

@@ -4,31 +4,31 @@
 use mathlib.Core.Bool.{true}
 use mathlib.Core.Path.{◌≡◌, sym, ap, ◌∙◌}
 use native.Mathlib.Omega.{arith}
-use borrow.Author.Tests.{not-true, not-false}
 use Rattle.table_view.specs.Rules.{accepts}
 use Rattle.wire.specs.Bytes.{zeros}
 use Rattle.table_builder.proofs.Laws.{no_table, by_zeros}
 use Rattle.table_view.proofs.Shape.{long, fits}
 use Rattle.wire.proofs.Sets.{tail}
 use Rattle.table_builder.proofs.inner.is_builder.Goals as goal
+use Rattle.table_builder.proofs.inner.is_builder.Goals.{Else-not-is_table}
 
-ok : (c : goal.Else-not-is_table) →
+ok : (c : Else-not-is_table) →
     accepts c.args.b.now ≡ true
-ok c = sym c.is_table.ensures ∙ not-false _ c.if-not-is_table.false
+ok c = sym c.is_table.ensures ∙ c.if-not-is_table.false
 
 pub returns-then-not-is_table : goal.returns-then-not-is_table
-returns-then-not-is_table c = no_table _ (sym c.is_table.ensures ∙ not-true _ c.if-not-is_table.true)
+returns-then-not-is_table c = no_table _ (sym c.is_table.ensures ∙ c.if-not-is_table.true)
 
 pub values_base-from-requires : goal.values_base-from-requires
-values_base-from-requires c = long _ (ok c)
+values_base-from-requires c = long _ (ok (goal.at.values_base-from-requires c).Else-not-is_table)
 
 pub slice_bounds-is_zero-count : goal.slice_bounds-is_zero-count
-slice_bounds-is_zero-count c = omega (arith, fits _ (ok c.before))
+slice_bounds-is_zero-count c = omega (arith, fits _ (ok (goal.at.slice_bounds-is_zero-count c).Else-not-is_table))
 
 pub slice_bounds-is_zero-start : goal.slice_bounds-is_zero-start
-slice_bounds-is_zero-start c = omega (arith, fits _ (ok c.before))
+slice_bounds-is_zero-start c = omega (arith, fits _ (ok (goal.at.slice_bounds-is_zero-start c).Else-not-is_table))
 
 pub returns : goal.returns
 returns c =
     c.is_zero.ensures ∙ ap zeros (tail c.args.b.now c.values_base-from.result)
-    ∙ rw c.values_base-from.ensures.0 (by_zeros _ (ok c.before.before.before))
+    ∙ rw c.values_base-from.ensures.0 (by_zeros _ (ok (goal.at.returns c).Else-not-is_table))

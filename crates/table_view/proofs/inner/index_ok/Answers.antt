@@ -1,7 +1,6 @@
 use mathlib.Core.Path.{sym, ◌∙◌}
 use Prim.Native.Nat.{◌-◌}
 use native.Mathlib.Omega.{arith}
-use borrow.Author.Tests.{not-true, not-false}
 use Rattle.table_view.proofs.Reading.{first_entry, next_entry, bad_entry, last_entry}
 use Rattle.table_view.proofs.inner.index_ok.Goals as goal
 
@@ -17,7 +16,7 @@ entry_ok-requires c = omega arith
 pub returns-then-not-entry_ok : goal.returns-then-not-entry_ok
 returns-then-not-entry_ok c =
     bad_entry _ _ _ _ _ _ c.loop-i.invariant.1 c.loop-i-test.true
-    (sym c.entry_ok.ensures ∙ not-true _ c.if-not-entry_ok.true)
+    (sym c.entry_ok.ensures ∙ c.if-not-entry_ok.true)
 
 pub key_at-last-requires : goal.key_at-last-requires
 key_at-last-requires c = omega arith
@@ -32,11 +31,12 @@ pub loop-i-smaller : goal.loop-i-smaller
 loop-i-smaller c = omega arith
 
 pub loop-i-preserved : goal.loop-i-preserved
-loop-i-preserved c = (
-  omega arith,
-  rw (c.key_at-last.ensures, c.offset_at-from.ensures.0) (next_entry _ _ _ _ _ _ c.loop-i.invariant.1
-      c.loop-i-test.true (sym c.entry_ok.ensures ∙ not-false _ c.if-not-entry_ok.false)),
-)
+loop-i-preserved c =
+    (
+      omega arith,
+      rw (c.key_at-last.ensures, c.offset_at-from.ensures.0) (next_entry _ _ _ _ _ _ c.loop-i.invariant.1
+          c.loop-i-test.true (sym c.entry_ok.ensures ∙ c.if-not-entry_ok.false)),
+    )
 
 pub returns : goal.returns
 returns c = last_entry _ _ _ _ _ _ c.loop-i.invariant.1 c.loop-i-test.false

@@ -13,7 +13,7 @@ value_start-from-requires c = omega (arith, fits _ c.requires.0)
 pub value_len-requires : goal.value_len-requires
 value_len-requires c =
     let e = entry_at _ c.requires.0 _ c.requires.1 in
-    omega (arith, fits _ c.requires.0)
+    record { t_in_bounds = omega (arith, fits _ c.requires.0); p_in_bounds = omega (arith, fits _ c.requires.0) }
 
 pub slice_bounds-result-end : goal.slice_bounds-result-end
 slice_bounds-result-end c =

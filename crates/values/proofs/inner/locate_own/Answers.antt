@@ -21,7 +21,7 @@ pub value_len-requires : goal.value_len-requires
 value_len-requires c =
     let i = (placed _ _ _ (sym c.find.ensures ∙ c.in-At.is)).inside in
     let e = entry_at _ c.requires _ i in
-    omega (arith, fits _ c.requires)
+    record { t_in_bounds = omega (arith, fits _ c.requires); p_in_bounds = omega (arith, fits _ c.requires) }
 
 pub returns : goal.returns
 returns c =
