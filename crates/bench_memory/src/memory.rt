@@ -1,5 +1,6 @@
 // What the bench remembers from line to line, but for its arrays, which are lent beside it.
 use lines::say;
+use std::io;
 
 // The counts of the pending list and store; whether a hub is open, and its counts; and whether the bytes past the last
 // response were as they were lent.
@@ -44,13 +45,13 @@ pub fn fresh() -> Bench {
 }
 
 // Whether a call on a hub goes on. If not, it is said why: its words are none of the call's, or there is no hub yet.
-pub fn goes_on(sound: bool, open: bool) -> bool {
+pub fn goes_on<R: Print>(rt: &R, sound: bool, open: bool) -> io::Result<bool> {
     if !sound {
-        say::no_call();
-        return false;
+        say::no_call(rt)?;
+        return Ok(false);
     }
     if !open {
-        say::line(b"closed");
+        say::line(rt, b"closed")?;
     }
-    open
+    Ok(open)
 }

@@ -1,56 +1,57 @@
 // The server's replies as lines.
 use lines::{parts, say};
 use numbers::Reply;
+use std::io;
 use table_view::Got;
 
-fn code(c: u8) {
-    say::bytes(b"att ", &[c]);
+fn code<R: Print>(rt: &R, c: u8) -> io::Result<()> {
+    say::bytes(rt, b"att ", &[c])
 }
 
-fn refused(n: u8) {
-    say::say(b"refused ");
-    say::number(n as u16);
-    say::say(b"\n");
+fn refused<R: Print>(rt: &R, n: u8) -> io::Result<()> {
+    say::say(rt, b"refused ")?;
+    say::number(rt, n as u16)?;
+    say::say(rt, b"\n")
 }
 
 // A reply that carries no value, with the words for done and for nothing.
-fn tell(r: Reply, done: &[u8], nothing: &[u8]) {
+fn tell<R: Print>(rt: &R, r: Reply, done: &[u8], nothing: &[u8]) -> io::Result<()> {
     let status = r.status;
     match status {
-        0 => say::line(done),
-        1 => say::line(nothing),
-        3 => code(r.code),
-        _ => refused(r.code),
+        0 => say::line(rt, done),
+        1 => say::line(rt, nothing),
+        3 => code(rt, r.code),
+        _ => refused(rt, r.code),
     }
 }
 
 // Of a call that does something, and of one that asks whether.
-pub fn tell_done(r: Reply) {
-    tell(r, b"ok", b"none");
+pub fn tell_done<R: Print>(rt: &R, r: Reply) -> io::Result<()> {
+    tell(rt, r, b"ok", b"none")
 }
 
-pub fn tell_whether(r: Reply) {
-    tell(r, b"yes", b"no");
+pub fn tell_whether<R: Print>(rt: &R, r: Reply) -> io::Result<()> {
+    tell(rt, r, b"yes", b"no")
 }
 
 // A reply that may carry a value, which stands at the buffer's start.
-pub fn tell_value(r: Reply, name: &[u8], out: &[u8; 1024]) {
+pub fn tell_value<R: Print>(rt: &R, r: Reply, name: &[u8], out: &[u8; 1024]) -> io::Result<()> {
     if r.status != 2 {
-        return tell_done(r);
+        return tell_done(rt, r);
     }
-    say::bytes(name, parts::front(out, r.len));
+    say::bytes(rt, name, parts::front(out, r.len))
 }
 
 // The bytes of a table that an answer names.
-pub fn tell_part(name: &[u8], b: &[u8], r: Got) {
+pub fn tell_part<R: Print>(rt: &R, name: &[u8], b: &[u8], r: Got) -> io::Result<()> {
     match r {
-        Got::Value(s) => say::bytes(name, table_view::part(b, s)),
-        Got::NotFound => say::line(b"none"),
-        Got::Refused => say::line(b"refused 4"),
+        Got::Value(s) => say::bytes(rt, name, table_view::part(b, s)),
+        Got::NotFound => say::line(rt, b"none"),
+        Got::Refused => say::line(rt, b"refused 4"),
     }
 }
 
 // A table up to its values' end.
-pub fn tell_table(table: &[u8]) {
-    tell_part(b"table ", table, table_view::raw(table));
+pub fn tell_table<R: Print>(rt: &R, table: &[u8]) -> io::Result<()> {
+    tell_part(rt, b"table ", table, table_view::raw(table))
 }

@@ -2,6 +2,7 @@
 use bench_memory::memory::Bench;
 use bench_memory::prepared::{LINKS, Numbers};
 use bench_memory::reply;
+use std::io;
 use wire::least;
 use wire::sizes::{Record, SlotBytes, Table};
 
@@ -28,7 +29,8 @@ fn opened(b: Bench) -> Bench {
 }
 
 // Opens it from the pending entries and bytes, with no prepared write. Where it is refused the former hub stays.
-pub fn open(
+pub fn open<R: Print>(
+    rt: &R,
     pending: &[Record],
     kept: &[u8],
     list: &mut [Record],
@@ -37,14 +39,14 @@ pub fn open(
     tables: &mut [Table],
     waiting: &mut [Numbers; LINKS],
     b: Bench,
-) -> Bench {
+) -> io::Result<Bench> {
     let r = edge::opening::new(pending, kept, row, tables);
-    reply::tell_done(r);
+    reply::tell_done(rt, r)?;
     if r.status != 0 {
-        return b;
+        return Ok(b);
     }
     copy_entries(pending, list);
     copy_store(kept, store);
     *waiting = [[0; 3]; LINKS];
-    opened(b)
+    Ok(opened(b))
 }

@@ -2,6 +2,7 @@
 use bench_memory::memory;
 use bench_memory::memory::{Bench, Handled};
 use lines::{number, parts, say, words};
+use std::io;
 use wire::least;
 use wire::sizes::{RECORD_SIZE, Record};
 
@@ -63,7 +64,7 @@ fn record(e: AttrLine, uuid: &[u8]) -> Record {
 }
 
 // One more entry.
-fn attr(line: &[u8], list: &mut [Record], b: Bench) -> Bench {
+fn attr<R: Print>(rt: &R, line: &[u8], list: &mut [Record], b: Bench) -> io::Result<Bench> {
     let e = read_attr(line);
     let mut uuid = [0u8; 4100];
     let n = number::bytes_at(line, 2, &mut uuid);
@@ -71,47 +72,54 @@ fn attr(line: &[u8], list: &mut [Record], b: Bench) -> Bench {
     if is_entry(e) & (n <= 4100) {
         if at < list.len() {
             list[at] = record(e, parts::front(&uuid, n));
-            say::line(b"ok");
+            say::line(rt, b"ok")?;
             let mut next = b;
             next.pending = at + 1;
-            return next;
+            return Ok(next);
         }
     }
-    say::no_call();
-    b
+    say::no_call(rt)?;
+    Ok(b)
 }
 
 // The pending store. The bytes are read beside it first, so that a line that is no call leaves it.
-fn store(line: &[u8], kept: &mut [u8], b: Bench) -> Bench {
+fn store<R: Print>(rt: &R, line: &[u8], kept: &mut [u8], b: Bench) -> io::Result<Bench> {
     let mut d = [0u8; 4100];
     let n = number::bytes_at(line, 1, &mut d);
     if 4100 < n {
-        say::no_call();
-        return b;
+        say::no_call(rt)?;
+        return Ok(b);
     }
     if !parts::put(kept, 0, parts::front(&d, n)) {
-        say::no_call();
-        return b;
+        say::no_call(rt)?;
+        return Ok(b);
     }
-    say::line(b"ok");
+    say::line(rt, b"ok")?;
     let mut next = b;
     next.kept = n;
-    next
+    Ok(next)
 }
 
-fn new(b: Bench) -> Bench {
-    say::line(b"ok");
+fn new<R: Print>(rt: &R, b: Bench) -> io::Result<Bench> {
+    say::line(rt, b"ok")?;
     let mut next = b;
     next.pending = 0;
     next.kept = 0;
-    next
+    Ok(next)
 }
 
-pub fn answer(line: &[u8], list: &mut [Record], kept: &mut [u8], b: Bench) -> Handled {
-    match words::call(line, b"new/0 attr/8 store/1") {
-        0 => memory::known(new(b)),
-        1 => memory::known(attr(line, list, b)),
-        2 => memory::known(store(line, kept, b)),
-        _ => memory::unknown(b),
-    }
+pub fn answer<R: Print>(
+    rt: &R,
+    line: &[u8],
+    list: &mut [Record],
+    kept: &mut [u8],
+    b: Bench,
+) -> io::Result<Handled> {
+    let next = match words::call(line, b"new/0 attr/8 store/1") {
+        0 => new(rt, b)?,
+        1 => attr(rt, line, list, b)?,
+        2 => store(rt, line, kept, b)?,
+        _ => return Ok(memory::unknown(b)),
+    };
+    Ok(memory::known(next))
 }

@@ -6,6 +6,7 @@ use bench_memory::{memory, peer, prepared, reply};
 use lines::{number, parts, say, words};
 use numbers::RequestNumbers;
 use peers::Identity;
+use std::io;
 use wire::least;
 use wire::sizes::{PreparedBytes, Record, SlotBytes, Table};
 
@@ -48,7 +49,8 @@ fn is_clean(out: &[u8; 1024], from: usize) -> bool {
 }
 
 // Answers a request, and whether the bytes past its response stayed.
-fn serve(
+fn serve<R: Print>(
+    rt: &R,
     list: &mut [Record],
     store: &mut [u8],
     row: &[SlotBytes],
@@ -58,7 +60,7 @@ fn serve(
     l: Asking,
     q: RequestNumbers,
     d: &[u8],
-) -> bool {
+) -> io::Result<bool> {
     let mut out = [0xEEu8; 1024];
     let n = least(l.size, 1024);
     let who = l.who;
@@ -79,12 +81,13 @@ fn serve(
     let r = s.reply;
     let next = s.next;
     *waiting = prepared::numbers(next);
-    reply::tell_value(r, b"rsp ", &out);
-    is_clean(&out, r.len)
+    reply::tell_value(rt, r, b"rsp ", &out)?;
+    Ok(is_clean(&out, r.len))
 }
 
 // The request of a line, if it has one. Answers as `serve` does; where nothing was asked, what was so before.
-fn request(
+fn request<R: Print>(
+    rt: &R,
     line: &[u8],
     list: &mut [Record],
     store: &mut [u8],
@@ -93,20 +96,21 @@ fn request(
     waiting: &mut [Numbers; LINKS],
     bytes: &mut [PreparedBytes; LINKS],
     b: Bench,
-) -> bool {
+) -> io::Result<bool> {
     let l = read_asking(line);
     let q = question::read(line);
     let a = q.asked;
     let mut d = [0u8; 4100];
     let n = question::payload(line, a.op, &mut d);
     let k = l.link;
-    if !memory::goes_on(l.ok & q.ok & (n <= 4100), b.open) {
-        return b.clean;
+    if !memory::goes_on(rt, l.ok & q.ok & (n <= 4100), b.open)? {
+        return Ok(b.clean);
     }
     if LINKS <= k {
-        return b.clean;
+        return Ok(b.clean);
     }
     serve(
+        rt,
         list,
         store,
         row,
@@ -119,18 +123,19 @@ fn request(
     )
 }
 
-fn tail(b: Bench) {
-    if !memory::goes_on(true, b.open) {
-        return;
+fn tail<R: Print>(rt: &R, b: Bench) -> io::Result<()> {
+    if !memory::goes_on(rt, true, b.open)? {
+        return Ok(());
     }
     if b.clean {
-        say::line(b"clean");
+        say::line(rt, b"clean")
     } else {
-        say::line(b"dirty");
+        say::line(rt, b"dirty")
     }
 }
 
-pub fn answer(
+pub fn answer<R: Print>(
+    rt: &R,
     line: &[u8],
     list: &mut [Record],
     store: &mut [u8],
@@ -139,15 +144,15 @@ pub fn answer(
     waiting: &mut [Numbers; LINKS],
     bytes: &mut [PreparedBytes; LINKS],
     b: Bench,
-) -> Handled {
+) -> io::Result<Handled> {
     if words::is(line, 0, b"req") {
         let mut next = b;
-        next.clean = request(line, list, store, row, tables, waiting, bytes, b);
-        return memory::known(next);
+        next.clean = request(rt, line, list, store, row, tables, waiting, bytes, b)?;
+        return Ok(memory::known(next));
     }
     if words::is_call(line, b"tail", 0) {
-        tail(b);
-        return memory::known(b);
+        tail(rt, b)?;
+        return Ok(memory::known(b));
     }
-    memory::unknown(b)
+    Ok(memory::unknown(b))
 }

@@ -9,6 +9,7 @@ use model::{Answer, Ask, Range, Request};
 use peers::Identity;
 use say::{line, say, say_answer};
 use state::Prepared;
+use std::io;
 use wire::sizes::{Record, SLOT_SIZE, SlotBytes, TABLE_SIZE, Table, VALUE_SIZE};
 
 // A record of the list: a readable variable value of type 7 with room for 20 bytes.
@@ -72,45 +73,53 @@ fn process(
 }
 
 // What it is answered, with a buffer of that length.
-fn say_request(rq: Request, d: &[u8], out: &mut [u8]) {
+fn say_request<R: Print>(rt: &R, rq: Request, d: &[u8], out: &mut [u8]) -> io::Result<()> {
     let mut row = [[0u8; SLOT_SIZE]; 8];
     let mut tables = [[0u8; TABLE_SIZE]; 8];
     open(&mut row, &mut tables);
     let a = process(&row, &mut tables, rq, d, out);
-    say_answer(out, a);
-    line();
+    say_answer(rt, out, a)?;
+    line(rt)
 }
 
-fn error_facts() {
+fn error_facts<R: Print>(rt: &R) -> io::Result<()> {
     let mut out = [0xEEu8; 23];
-    say(b"* Read of absent 9: ");
-    say_request(Request::Ask(Ask::Read { handle: 9 }), b"", &mut out);
+    say(rt, b"* Read of absent 9: ")?;
+    say_request(rt, Request::Ask(Ask::Read { handle: 9 }), b"", &mut out)?;
     let backwards = Range { start: 5, end: 4 };
-    say(b"* Find Information 5 to 4: ");
-    say_request(Request::Ask(Ask::FindInformation(backwards)), b"", &mut out);
+    say(rt, b"* Find Information 5 to 4: ")?;
+    say_request(
+        rt,
+        Request::Ask(Ask::FindInformation(backwards)),
+        b"",
+        &mut out,
+    )
 }
 
 // Read By Type over all handles, of type 7.
-fn say_by_type(out: &mut [u8]) {
+fn say_by_type<R: Print>(rt: &R, out: &mut [u8]) -> io::Result<()> {
     let all = Range {
         start: 1,
         end: 0xFFFF,
     };
-    say_request(Request::Ask(Ask::ReadByType(all)), &[7u8, 0], out);
+    say_request(rt, Request::Ask(Ask::ReadByType(all)), &[7u8, 0], out)
 }
 
-fn list_facts() {
+fn list_facts<R: Print>(rt: &R) -> io::Result<()> {
     let mut out = [0xEEu8; 23];
-    say(b"* Buffer 23, Read By Type, values of 5, 5 and 6 bytes: ");
-    say_by_type(&mut out);
+    say(
+        rt,
+        b"* Buffer 23, Read By Type, values of 5, 5 and 6 bytes: ",
+    )?;
+    say_by_type(rt, &mut out)?;
     let mut longer = [0xEEu8; 24];
-    say(b"* Buffer 24: ");
-    say_by_type(&mut longer);
+    say(rt, b"* Buffer 24: ")?;
+    say_by_type(rt, &mut longer)
 }
 
-pub fn request_facts() {
-    error_facts();
-    list_facts();
+pub fn request_facts<R: Print>(rt: &R) -> io::Result<()> {
+    error_facts(rt)?;
+    list_facts(rt)
 }
 
 fn connect(row: &mut [SlotBytes; 8], tables: &mut [Table; 8], n: u8) -> Answer {
@@ -139,32 +148,40 @@ fn connect_eight(row: &mut [SlotBytes; 8], tables: &mut [Table; 8]) {
 }
 
 // What the ninth tablet is answered.
-fn say_ninth(row: &mut [SlotBytes; 8], tables: &mut [Table; 8]) {
+fn say_ninth<R: Print>(
+    rt: &R,
+    row: &mut [SlotBytes; 8],
+    tables: &mut [Table; 8],
+) -> io::Result<()> {
     let a = connect(row, tables, 9);
-    say_answer(b"", a);
+    say_answer(rt, b"", a)
 }
 
 // A ninth tablet, and again once one of the eight is gone.
-fn say_slots(row: &mut [SlotBytes; 8], tables: &mut [Table; 8]) {
-    say(b"Ninth connected tablet: ");
-    say_ninth(row, tables);
+fn say_slots<R: Print>(
+    rt: &R,
+    row: &mut [SlotBytes; 8],
+    tables: &mut [Table; 8],
+) -> io::Result<()> {
+    say(rt, b"Ninth connected tablet: ")?;
+    say_ninth(rt, row, tables)?;
     leave_bonded(row, tables, 3);
-    say(b"; with tablet 3 gone and bonded: ");
-    say_ninth(row, tables);
+    say(rt, b"; with tablet 3 gone and bonded: ")?;
+    say_ninth(rt, row, tables)
 }
 
-fn say_third(row: &[SlotBytes; 8]) {
-    say(b", the third slot is tablet ");
+fn say_third<R: Print>(rt: &R, row: &[SlotBytes; 8]) -> io::Result<()> {
+    say(rt, b", the third slot is tablet ")?;
     let third = row[2];
-    lines::say::hex(&[third[1]]);
-    line();
+    lines::say::hex(rt, &[third[1]])?;
+    line(rt)
 }
 
-pub fn slot_facts() {
+pub fn slot_facts<R: Print>(rt: &R) -> io::Result<()> {
     let mut row = [[0u8; SLOT_SIZE]; 8];
     let mut tables = [[0u8; TABLE_SIZE]; 8];
     open(&mut row, &mut tables);
     connect_eight(&mut row, &mut tables);
-    say_slots(&mut row, &mut tables);
-    say_third(&row);
+    say_slots(rt, &mut row, &mut tables)?;
+    say_third(rt, &row)
 }

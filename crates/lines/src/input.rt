@@ -1,5 +1,6 @@
 // Lines of standard input.
-use libc::STDIN_FILENO;
+use std::io;
+use std::io::Read;
 
 // How much of the chunk that was read last has been handed out, and where what was read ends.
 #[derive(Clone, Copy)]
@@ -29,38 +30,38 @@ pub fn start() -> Feed {
     Feed { at: 0, end: 0 }
 }
 
-fn refill(chunk: &mut [u8]) -> Step {
-    let n = io::count(libc::read(STDIN_FILENO, chunk), chunk);
+fn refill<R: Input>(rt: &R, chunk: &mut [u8]) -> io::Result<Step> {
+    let n = rt.reader().read(chunk)?;
     if n == 0 {
-        return Step {
+        return Ok(Step {
             feed: start(),
             got: false,
             byte: 0,
-        };
+        });
     }
-    Step {
+    Ok(Step {
         feed: Feed { at: 1, end: n },
         got: true,
         byte: chunk[0],
-    }
+    })
 }
 
-fn take(f: Feed, chunk: &mut [u8]) -> Step {
+fn take<R: Input>(rt: &R, f: Feed, chunk: &mut [u8]) -> io::Result<Step> {
     let at = f.at;
     if f.end <= at {
-        return refill(chunk);
+        return refill(rt, chunk);
     }
     if chunk.len() <= at {
-        return refill(chunk);
+        return refill(rt, chunk);
     }
-    Step {
+    Ok(Step {
         feed: Feed {
             at: at + 1,
             end: f.end,
         },
         got: true,
         byte: chunk[at],
-    }
+    })
 }
 
 // Puts a byte at place n of the line, if it has room, and answers the next place. Past the line's end the place stays.
@@ -74,29 +75,29 @@ fn put(line: &mut [u8], n: usize, b: u8) -> usize {
 
 // Reads up to the next line's end. Nothing says that the input has one, so the loop counts down from a number that no
 // run uses up.
-pub fn next(feed: Feed, chunk: &mut [u8], line: &mut [u8]) -> Line {
+pub fn next<R: Input>(rt: &R, feed: Feed, chunk: &mut [u8], line: &mut [u8]) -> io::Result<Line> {
     let mut f = feed;
     let mut n = 0;
     let mut turns = u64::MAX;
     while turns > 0 {
-        let s = take(f, chunk);
+        let s = take(rt, f, chunk)?;
         f = s.feed;
         if !s.got {
             break;
         }
         if s.byte == b'\n' {
-            return Line {
+            return Ok(Line {
                 feed: f,
                 len: n,
                 last: false,
-            };
+            });
         }
         n = put(line, n, s.byte);
         turns -= 1;
     }
-    Line {
+    Ok(Line {
         feed: f,
         len: n,
         last: true,
-    }
+    })
 }

@@ -1,48 +1,49 @@
 // Answers on standard output.
 ghost use Rattle.std.specs.Prelude.{◌≤◌, length};
 
-use libc::STDOUT_FILENO;
+use std::io;
 use wire::least;
 use wire::sizes::VALUE_SIZE;
 
-pub fn say(s: &[u8]) {
-    io::write_all(STDOUT_FILENO, s);
+pub fn say<R: Print>(rt: &R, s: &[u8]) -> io::Result<()> {
+    rt.write_all(s)
 }
 
 // A whole line.
-pub fn line(s: &[u8]) {
-    say(s);
-    say(b"\n");
+pub fn line<R: Print>(rt: &R, s: &[u8]) -> io::Result<()> {
+    say(rt, s)?;
+    say(rt, b"\n")
 }
 
 // A few bytes as hex pairs.
-fn pairs(d: &[u8])
+fn pairs<R: Print>(rt: &R, d: &[u8]) -> io::Result<()>
     requires { length d.now ≤ 256 }
 {
     let mut line = [0u8; VALUE_SIZE];
     text::inner::hex(&mut line, 0, d);
     let n = 2 * d.len();
-    say(&line[..n]);
+    say(rt, &line[..n])
 }
 
 // Bytes as hex pairs, `-` where there are none.
-pub fn hex(d: &[u8]) {
+pub fn hex<R: Print>(rt: &R, d: &[u8]) -> io::Result<()> {
     if d.len() == 0 {
-        say(b"-");
+        say(rt, b"-")?;
     }
     let mut i = 0;
     while i < d.len() {
         let e = least(i + 256, d.len());
-        pairs(&d[i..e]);
+        pairs(rt, &d[i..e])?;
         i = e;
     }
+    Ok(())
 }
 
 // A word, then bytes, as a line.
-pub fn bytes(name: &[u8], d: &[u8]) {
-    say(name);
-    hex(d);
-    say(b"\n");
+pub fn bytes<R: Print>(rt: &R, name: &[u8], d: &[u8]) -> io::Result<()> {
+    say(rt, name)?;
+    hex(rt, d)?;
+    say(rt, b"\n")
 }
 
 // How many of the digits are zeros in front; the last digit is none.
@@ -58,17 +59,18 @@ fn zeros(d: &[u8; 4]) -> usize {
 }
 
 // A number in capitals, with no zeros in front.
-pub fn number(n: u16) {
+pub fn number<R: Print>(rt: &R, n: u16) -> io::Result<()> {
     let pair = [(n / 256) as u8, (n % 256) as u8];
     let mut d = [0u8; 4];
     text::inner::hex(&mut d, 0, &pair);
     let from = zeros(&d);
     if from <= 4 {
-        say(&d[from..4]);
+        say(rt, &d[from..4])?;
     }
+    Ok(())
 }
 
 // What is no call.
-pub fn no_call() {
-    line(b"?");
+pub fn no_call<R: Print>(rt: &R) -> io::Result<()> {
+    line(rt, b"?")
 }

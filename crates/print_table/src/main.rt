@@ -1,13 +1,32 @@
 // Prints the saved table on standard input. One byte more than the longest is read, so that a longer input shows.
 #![tactic(auto)]
 
-use libc::{STDIN_FILENO, STDOUT_FILENO};
+ghost use Rattle.std.specs.Prelude.{◌≤◌, length, IfOk};
+
+use std::io;
+use std::io::Read;
 use table_printer::TEXT_SIZE;
 
-fn main() {
+// Reads until the buffer is full or the input ends, and answers how many bytes it put at the buffer's start.
+fn read_full<R: Input>(rt: &R, buf: &mut [u8]) -> io::Result<usize>
+    ensures { IfOk result (λ n. n ≤ length buf.new) }
+{
+    let mut reader = rt.reader();
+    let mut done = 0;
+    while done < buf.len() {
+        let n = reader.read(&mut buf[done..])?;
+        if n == 0 {
+            break;
+        }
+        done += n;
+    }
+    Ok(done)
+}
+
+fn main(rt: HostRuntime) -> io::Result<()> {
     let mut input = [0u8; 65537];
-    let n = io::read_full(STDIN_FILENO, &mut input);
+    let n = read_full(&rt, &mut input)?;
     let mut text = [0u8; TEXT_SIZE];
     let k = table_printer::write_lines(&input[..n], &mut text);
-    io::write_all(STDOUT_FILENO, &text[..k]);
+    rt.write_all(&text[..k])
 }

@@ -2,6 +2,8 @@
 // stored beside it are those of the Rust original, or, where the two part, those that docs/DIFFERENCES.md gives.
 #![tactic(auto)]
 
-fn main() {
-    test_bench::desk::run();
+use std::io;
+
+fn main(rt: HostRuntime) -> io::Result<()> {
+    test_bench::desk::run(&rt)
 }

@@ -1,6 +1,8 @@
 // Answers the session on standard input, line by line.
 #![tactic(auto)]
 
-fn main() {
-    test_bench::desk::run();
+use std::io;
+
+fn main(rt: HostRuntime) -> io::Result<()> {
+    test_bench::desk::run(&rt)
 }

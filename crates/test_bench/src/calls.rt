@@ -4,25 +4,28 @@ use bench_memory::memory::{Bench, Handled};
 use bench_memory::prepared::{LINKS, Numbers};
 use bench_pokes::{dump, poke};
 use bench_requests::serve;
+use std::io;
 use wire::sizes::{PreparedBytes, Record, SlotBytes, Table};
 
 // The server's calls, but for requests.
-fn called(
+fn called<R: Print>(
+    rt: &R,
     line: &[u8],
     list: &mut [Record],
     store: &mut [u8],
     row: &mut [SlotBytes],
     tables: &mut [Table],
     open: bool,
-) -> bool {
-    if bench_values::answer(line, list, store, row, tables, open) {
-        return true;
+) -> io::Result<bool> {
+    if bench_values::answer(rt, line, list, store, row, tables, open)? {
+        return Ok(true);
     }
-    bench_peers::answer(line, list, store, row, tables, open)
+    bench_peers::answer(rt, line, list, store, row, tables, open)
 }
 
 // The bench's own: the state told, and altered.
-fn looked(
+fn looked<R: Print>(
+    rt: &R,
     line: &[u8],
     list: &mut [Record],
     store: &mut [u8],
@@ -31,15 +34,16 @@ fn looked(
     waiting: &mut [Numbers; LINKS],
     bytes: &mut [PreparedBytes; LINKS],
     open: bool,
-) -> bool {
-    if dump::answer(line, list, store, row, tables, waiting, bytes, open) {
-        return true;
+) -> io::Result<bool> {
+    if dump::answer(rt, line, list, store, row, tables, waiting, bytes, open)? {
+        return Ok(true);
     }
-    poke::answer(line, list, store, row, tables, waiting, bytes, open)
+    poke::answer(rt, line, list, store, row, tables, waiting, bytes, open)
 }
 
 // The calls that leave what the bench remembers.
-fn steady(
+fn steady<R: Print>(
+    rt: &R,
     line: &[u8],
     list: &mut [Record],
     store: &mut [u8],
@@ -48,14 +52,15 @@ fn steady(
     waiting: &mut [Numbers; LINKS],
     bytes: &mut [PreparedBytes; LINKS],
     open: bool,
-) -> bool {
-    if called(line, list, store, row, tables, open) {
-        return true;
+) -> io::Result<bool> {
+    if called(rt, line, list, store, row, tables, open)? {
+        return Ok(true);
     }
-    looked(line, list, store, row, tables, waiting, bytes, open)
+    looked(rt, line, list, store, row, tables, waiting, bytes, open)
 }
 
-pub fn answer(
+pub fn answer<R: Print>(
+    rt: &R,
     line: &[u8],
     list: &mut [Record],
     store: &mut [u8],
@@ -64,9 +69,9 @@ pub fn answer(
     waiting: &mut [Numbers; LINKS],
     bytes: &mut [PreparedBytes; LINKS],
     b: Bench,
-) -> Handled {
-    if steady(line, list, store, row, tables, waiting, bytes, b.open) {
-        return memory::known(b);
+) -> io::Result<Handled> {
+    if steady(rt, line, list, store, row, tables, waiting, bytes, b.open)? {
+        return Ok(memory::known(b));
     }
-    serve::answer(line, list, store, row, tables, waiting, bytes, b)
+    serve::answer(rt, line, list, store, row, tables, waiting, bytes, b)
 }

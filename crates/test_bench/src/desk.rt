@@ -6,26 +6,28 @@ use bench_memory::prepared::{LINKS, Numbers};
 use bench_opening::{opening, pending};
 use lines::input::{Feed, Line};
 use lines::{input, parts, say, words};
+use std::io;
 use wire::least;
 use wire::sizes::{
     PreparedBytes, RECORD_SIZE, Record, SLOT_SIZE, SLOTS, SlotBytes, TABLE_SIZE, Table, VALUE_SIZE,
 };
 
 // Whether a line is no call but passed on: an empty one, or a comment.
-fn echoed(line: &[u8]) -> bool {
+fn echoed<R: Print>(rt: &R, line: &[u8]) -> io::Result<bool> {
     if line.len() == 0 {
-        say::line(line);
-        return true;
+        say::line(rt, line)?;
+        return Ok(true);
     }
     if line[0] == b'#' {
-        say::line(line);
-        return true;
+        say::line(rt, line)?;
+        return Ok(true);
     }
-    false
+    Ok(false)
 }
 
 // The calls on what is open, or opens it.
-fn on_hub(
+fn on_hub<R: Print>(
+    rt: &R,
     line: &[u8],
     pending: &[Record],
     kept: &[u8],
@@ -36,11 +38,12 @@ fn on_hub(
     waiting: &mut [Numbers; LINKS],
     bytes: &mut [PreparedBytes; LINKS],
     b: Bench,
-) -> Bench {
+) -> io::Result<Bench> {
     if words::is_call(line, b"open", 0) {
         let n = least(b.pending, pending.len());
         let m = least(b.kept, kept.len());
         return opening::open(
+            rt,
             &pending[..n],
             &kept[..m],
             list,
@@ -54,6 +57,7 @@ fn on_hub(
     let n = least(b.entries, list.len());
     let m = least(b.store, store.len());
     let t = calls::answer(
+        rt,
         line,
         &mut list[..n],
         &mut store[..m],
@@ -62,16 +66,17 @@ fn on_hub(
         waiting,
         bytes,
         b,
-    );
+    )?;
     if !t.known {
-        say::no_call();
+        say::no_call(rt)?;
     }
     let next = t.bench;
-    next
+    Ok(next)
 }
 
 // Answers a line that is a call on the pending list or on a hub, or none.
-fn answer(
+fn answer<R: Print>(
+    rt: &R,
     line: &[u8; 8200],
     len: usize,
     pending: &mut [Record; 65],
@@ -83,36 +88,47 @@ fn answer(
     waiting: &mut [Numbers; LINKS],
     bytes: &mut [PreparedBytes; LINKS],
     b: Bench,
-) -> Bench {
+) -> io::Result<Bench> {
     let l = parts::front(line, len);
-    let t = pending::answer(l, pending, kept, b);
+    let t = pending::answer(rt, l, pending, kept, b)?;
     let next = t.bench;
     if t.known {
-        return next;
+        return Ok(next);
     }
     on_hub(
-        l, pending, kept, list, store, row, tables, waiting, bytes, b,
+        rt, l, pending, kept, list, store, row, tables, waiting, bytes, b,
     )
 }
 
 // Whether a line is answered without these: echoed, too long, or a call on the bench's own builder and table.
-fn is_apart(line: &[u8; 8200], len: usize, builder: &mut Table, table: &mut Table) -> bool {
+fn is_apart<R: Print>(
+    rt: &R,
+    line: &[u8; 8200],
+    len: usize,
+    builder: &mut Table,
+    table: &mut Table,
+) -> io::Result<bool> {
     if 8200 < len {
-        say::no_call();
-        return true;
+        say::no_call(rt)?;
+        return Ok(true);
     }
-    if echoed(parts::front(line, len)) {
-        return true;
+    if echoed(rt, parts::front(line, len))? {
+        return Ok(true);
     }
-    bench_tables::answer(parts::front(line, len), builder, table)
+    bench_tables::answer(rt, parts::front(line, len), builder, table)
 }
 
-fn next(feed: Feed, chunk: &mut [u8; 65536], line: &mut [u8; 8200]) -> Line {
-    input::next(feed, chunk, line)
+fn next<R: Input>(
+    rt: &R,
+    feed: Feed,
+    chunk: &mut [u8; 65536],
+    line: &mut [u8; 8200],
+) -> io::Result<Line> {
+    input::next(rt, feed, chunk, line)
 }
 
 // Answers the session on standard input, to its end.
-pub fn run() {
+pub fn run<R: Input + Print>(rt: &R) -> io::Result<()> {
     let mut chunk = [0u8; 65536];
     let mut line = [0u8; 8200];
     let mut pending = [[0u8; RECORD_SIZE]; 65];
@@ -129,15 +145,16 @@ pub fn run() {
     let mut feed = input::start();
     let mut turns = u64::MAX;
     while turns > 0 {
-        let l = next(feed, &mut chunk, &mut line);
+        let l = next(rt, feed, &mut chunk, &mut line)?;
         feed = l.feed;
         if l.last {
             if l.len == 0 {
-                return;
+                return Ok(());
             }
         }
-        if !is_apart(&line, l.len, &mut builder, &mut table) {
+        if !is_apart(rt, &line, l.len, &mut builder, &mut table)? {
             b = answer(
+                rt,
                 &line,
                 l.len,
                 &mut pending,
@@ -149,8 +166,9 @@ pub fn run() {
                 &mut waiting,
                 &mut bytes,
                 b,
-            );
+            )?;
         }
         turns -= 1;
     }
+    Ok(())
 }
