@@ -4,6 +4,6 @@ use Rattle.text.proofs.Turns.{hex_length}
 use Rattle.lines.proofs.say.number.Goals as goal
 
 pub hex-requires : goal.hex-requires
-hex-requires c =
+hex-requires g c =
     let n = c.args.n in
     omega (arith, hex_length (n / 256 ∷ n % 256 ∷ []))

@@ -4,8 +4,8 @@ use Rattle.text.proofs.Turns.{hex_length}
 use Rattle.lines.proofs.say.pairs.Goals as goal
 
 pub hex-n-requires : goal.hex-n-requires
-hex-n-requires c =
+hex-n-requires g c =
     omega (arith, hex_length c.args.d.now, c.requires)
 
 pub slice_bounds-say-end : goal.slice_bounds-say-end
-slice_bounds-say-end c = simp length-take (omega arith)
+slice_bounds-say-end g c = simp length-take (omega arith)
