@@ -1,13 +1,10 @@
 -- `table_builder::push` meets its contract. `judge`'s answer is the plan. An Added one has passed every test, which is
 -- what `add` asks for (`adds`), and any other leaves the bytes (`stays`).
--- Where the `if let` fails, `keys2` says that the answer is the variant 1, 2 or 3, and Added is 0 (`miss`).
 -- Assumes nothing.
-use mathlib.Core.List.{[], ◌∷◌}
 use mathlib.Core.Path.{sym, ap, ◌∙◌}
 use native.Mathlib.Omega.{arith}
 use Rattle.table_builder.specs.Push.{told_pushed}
 use Rattle.table_builder.proofs.Laws.{adds, stays}
-use types.Run.{miss}
 use Rattle.table_builder.proofs.push.Goals as goal
 
 pub add-requires : goal.add-requires
@@ -26,5 +23,5 @@ pub returns-in_default : goal.returns-in_default
 returns-in_default c =
     (
       ap told_pushed c.judge-plan.ensures,
-      stays _ _ _ (λ e. miss (1 ∷ 2 ∷ 3 ∷ []) 0 tt (rw (c.judge-plan.ensures ∙ e) at c.in_default.keys2)),
+      stays _ _ _ (λ e. c.in_default.not-Added (c.judge-plan.ensures ∙ e)),
     )

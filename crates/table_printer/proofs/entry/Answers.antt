@@ -21,7 +21,7 @@ line-requires c =
     short_as _ _ _ c.requires.short (entry_line_lem c.args.t.now c.args.p.0 _ _ _ c.key_at-key.ensures c.is_variable-variable.ensures c.value.ensures)
 
 pub shape_of-out : goal.shape_of-out
-shape_of-out c = c.line.auto.0
+shape_of-out c = c.line.auto.out
 
 pub returns : goal.returns
 returns c =

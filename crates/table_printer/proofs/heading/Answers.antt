@@ -18,7 +18,7 @@ bytes-requires c =
 
 pub shape_of-out : goal.shape_of-out
 shape_of-out c =
-    c.bytes.auto.0 ∙ c.decimal-end.auto.0 ∙ c.bytes-word.auto.0
+    c.bytes.auto.out ∙ c.decimal-end.auto.out ∙ c.bytes-word.auto.out
 
 pub returns : goal.returns
 returns c =

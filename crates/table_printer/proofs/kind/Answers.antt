@@ -7,7 +7,7 @@ bytes-requires c =
     v_short _ _ c.requires c.if-variable.true
 
 pub shape_of-out-then-variable : goal.shape_of-out-then-variable
-shape_of-out-then-variable c = c.bytes.auto.0
+shape_of-out-then-variable c = c.bytes.auto.out
 
 pub returns-then-variable : goal.returns-then-variable
 returns-then-variable c =
@@ -18,7 +18,7 @@ bytes-requires-2 c =
     f_short _ _ c.requires c.if-variable.false
 
 pub shape_of-out : goal.shape_of-out
-shape_of-out c = c.bytes-2.auto.0
+shape_of-out c = c.bytes-2.auto.out
 
 pub returns : goal.returns
 returns c =

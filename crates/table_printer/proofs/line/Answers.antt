@@ -39,7 +39,7 @@ bytes-requires c =
 
 pub shape_of-out : goal.shape_of-out
 shape_of-out c =
-    c.bytes.auto.0 ∙ c.value-end.auto.0 ∙ c.bytes-hex.auto.0 ∙ c.decimal-space.auto.0 ∙ c.kind-len.auto.0 ∙ c.decimal-form.auto.0
+    c.bytes.auto.out ∙ c.value-end.auto.out ∙ c.bytes-hex.auto.out ∙ c.decimal-space.auto.out ∙ c.kind-len.auto.out ∙ c.decimal-form.auto.out
 
 pub returns : goal.returns
 returns c =

@@ -33,7 +33,7 @@ loop-i-preserved c =
 
 pub shape_of-out : goal.shape_of-out
 shape_of-out c =
-    c.loop-i.invariant.1.size ∙ c.heading-next.auto.0
+    c.loop-i.invariant.1.size ∙ c.heading-next.auto.out
 
 pub returns : goal.returns
 returns c =

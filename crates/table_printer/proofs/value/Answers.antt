@@ -8,7 +8,7 @@ bytes-requires c =
     none_short _ c.args.v.now c.requires (omega (arith, c.if-v-eq0.true))
 
 pub shape_of-out-then-v-eq0 : goal.shape_of-out-then-v-eq0
-shape_of-out-then-v-eq0 c = c.bytes.auto.0
+shape_of-out-then-v-eq0 c = c.bytes.auto.out
 
 pub returns-then-v-eq0 : goal.returns-then-v-eq0
 returns-then-v-eq0 c =
@@ -19,7 +19,7 @@ hex-requires c =
     some_short _ _ c.requires c.if-v-eq0.false
 
 pub shape_of-out : goal.shape_of-out
-shape_of-out c = c.hex.auto.0
+shape_of-out c = c.hex.auto.out
 
 pub returns : goal.returns
 returns c =

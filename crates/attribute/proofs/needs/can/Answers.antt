@@ -20,7 +20,7 @@ is-place c = one_found c.find_handle.result _ c.find_handle.ensures
 -- the place that was found is the handle's, and so lies in the list
 at : (c : In-At) →
     place_of c.args.list.now c.args.handle ≡ At c.in-At.i
-at c = sym (is-place c.before.before.before) ∙ c.in-At.is
+at c = sym (one_found c.find_handle.result _ c.find_handle.ensures) ∙ c.in-At.is
 
 inside : (c : In-At) →
     c.in-At.i < length c.args.list.now

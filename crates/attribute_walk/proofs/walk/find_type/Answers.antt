@@ -1,10 +1,13 @@
-use mathlib.Core.Path.{refl, sym, ◌∙◌}
-use mathlib.Core.Logic.{⊎_elim}
+use mathlib.Core.Bool.{false}
+use mathlib.Core.List.{[]}
+use mathlib.Core.Path.{◌≡◌, refl, sym, ◌∙◌}
+use lib.ListN.{get_or}
 use Prim.Native.Nat.{◌-◌}
 use native.Mathlib.Omega.{arith}
 use Rattle.attribute_walk.specs.Walk.{is_of_type}
 use Rattle.attribute_walk.proofs.Walks.{stretch_hit, stretch_miss, stretch_end, match_not}
 use Rattle.attribute_walk.proofs.walk.find_type.Goals as goal
+use Rattle.attribute_walk.proofs.walk.find_type.Goals.{then-may_match+else-is_type, else-may_match}
 
 pub loop-i-init : goal.loop-i-init
 loop-i-init c = refl
@@ -28,10 +31,14 @@ loop-i-smaller c = omega arith
 
 pub loop-i-preserved : goal.loop-i-preserved
 loop-i-preserved c =
-    sym (stretch_miss (is_of_type _) c.args.list.now _ _ c.requires.0 c.loop-i-test.true
-    (⊎_elim (λ w. sym w.1.ensures ∙ w.2.left)
-    (λ w. match_not _ _ _ c.may_match.ensures.1 c.requires.1 (sym c.may_match.ensures.0 ∙ w.left))
-    c.if-may_match.branch)) ∙ c.loop-i.invariant
+    let here = get_or c.args.list.now c.loop-i.i [] in
+    let missed : is_of_type c.args.uuid.now here ≡ false =
+        elim c.if-may_match.branch [
+          then-may_match+else-is_type w ↦ sym w.is_type.ensures ∙ w.if-is_type.false
+        | else-may_match w ↦
+            match_not _ _ _ c.may_match.ensures.1 c.requires.1 (sym c.may_match.ensures.0 ∙ w.if-may_match.false)
+        ] in
+    sym (stretch_miss (is_of_type _) c.args.list.now _ _ c.requires.0 c.loop-i-test.true missed) ∙ c.loop-i.invariant
 
 pub returns : goal.returns
 returns c =

@@ -1,6 +1,7 @@
 -- `attribute_walk::walk::may_match` meets its contract. A law for each way: a type that has a short form, and one that
 -- has none. Assumes nothing.
 use mathlib.Core.Bool.{not}
+use borrow.Author.Rules.{rules}
 use mathlib.Core.Path.{ap, ◌∙◌}
 use Rattle.attribute_walk.proofs.Walks.{match_number, match_long}
 use Rattle.attribute_walk.proofs.walk.may_match.Goals as goal
@@ -10,4 +11,4 @@ returns-then-short c = (c.may_be.ensures.0 ∙ match_number _ _ c.if-short.true,
 
 pub returns : goal.returns
 returns c =
-    (ap not c.is_short.ensures ∙ match_long _ _ c.if-short.false, is-short-requires c.before c.is_short.lifetimes)
+    (ap not c.is_short.ensures ∙ match_long _ _ c.if-short.false, search rules)

@@ -1,27 +1,17 @@
-use mathlib.Core.Bool.{true}
 use mathlib.Core.List.{List}
 use mathlib.Core.Path.{◌≡◌, refl, sym, ◌∙◌}
-use Prim.Native.Nat.{ℕ, ◌+◌, ◌-◌, ◌≤◌, ◌<◌}
+use Prim.Native.Nat.{ℕ, ◌+◌, ◌-◌, ◌<◌}
 use native.Mathlib.Omega.{arith}
-use lib.ListN.{length}
 use Rattle.client_att_table.specs.SetValues.{set_one, set_all}
 use Rattle.table_view.specs.Layout.{count_of, key_at}
-use Rattle.table_view.specs.Rules.{accepts}
-use Rattle.table_view.specs.Walk.{ComesTo, StopsAt}
+use Rattle.table_view.specs.Walk.{StopsAt}
 use Rattle.client_att_table.proofs.Frame.{kept_index}
 use Rattle.client_att_table.proofs.Taking.{took_held, none_set, one_set, all_set, one_kept}
 use Rattle.table_view.proofs.Same.{count_same, key_same}
 use Rattle.table_view.proofs.Search.{comes_first, comes_by}
 use Rattle.table_view.proofs.Shape.{long, fits, ascends}
+use Rattle.client_att_table.proofs.inner.set_values.Invariants.{Turn}
 use Rattle.client_att_table.proofs.inner.set_values.Goals as goal
-
-record Turn (t₀ src : List ℕ) (n : ℕ) (t : List ℕ) (from i : ℕ) : Type 0 where
-  ok : accepts t ≡ true
-  count : count_of t ≡ n
-  len : length t ≡ length t₀
-  at : i ≤ n
-  comes : i < n → ComesTo src (key_at t i) from
-  rest : set_all src (n - i) i t ≡ set_all src (count_of t₀) 0 t₀
 
 turn : (t₀ src : List ℕ) (n : ℕ) (t : List ℕ) (from i key next : ℕ) (out : List ℕ) → Turn t₀ src n t from i → i < n → key ≡ key_at t i
     → StopsAt src key next → out ≡ set_one src t i → Turn t₀ src n out next (i + 1)

@@ -3,6 +3,7 @@ use Rattle.wire.specs.Size.{table_bytes}
 use Rattle.eight_tables.proofs.Columns.{folded, eight_by}
 use Rattle.eight_tables.specs.Tables.{sized}
 use lib.Dec.{eqb}
+use borrow.Author.Rules.{rules}
 use mathlib.Core.List.{[]}
 use lib.ListN.{length, get_or}
 use borrow.Author.Tests.{eq-eqb}
@@ -18,12 +19,12 @@ returns c =
           c.differ.ensures c.differ-2.ensures c.differ-3.ensures c.differ-4.ensures
           c.differ-5.ensures c.differ-6.ensures c.differ-7.ensures c.differ-8.ensures,
       eight_by sized c.args.tables.now c.requires.0
-          (eq-eqb (length (get_or c.args.tables.now 0 [])) table_bytes (search c.differ-arg-2-1.given))
-          (eq-eqb (length (get_or c.args.tables.now 1 [])) table_bytes (search c.differ-arg-4-1.given))
-          (eq-eqb (length (get_or c.args.tables.now 2 [])) table_bytes (search c.differ-arg-6-1.given))
-          (eq-eqb (length (get_or c.args.tables.now 3 [])) table_bytes (search c.differ-arg-8-1.given))
-          (eq-eqb (length (get_or c.args.tables.now 4 [])) table_bytes (search c.differ-3.given))
-          (eq-eqb (length (get_or c.args.tables.now 5 [])) table_bytes (search c.differ-arg-5-1.given))
-          (eq-eqb (length (get_or c.args.tables.now 6 [])) table_bytes (search c.differ-6.given))
-          (eq-eqb (length (get_or c.args.tables.now 7 [])) table_bytes (search c.differ-arg-8-1.given)),
+          (eq-eqb (length (get_or c.args.tables.now 0 [])) table_bytes (search rules))
+          (eq-eqb (length (get_or c.args.tables.now 1 [])) table_bytes (search rules))
+          (eq-eqb (length (get_or c.args.tables.now 2 [])) table_bytes (search rules))
+          (eq-eqb (length (get_or c.args.tables.now 3 [])) table_bytes (search rules))
+          (eq-eqb (length (get_or c.args.tables.now 4 [])) table_bytes (search rules))
+          (eq-eqb (length (get_or c.args.tables.now 5 [])) table_bytes (search rules))
+          (eq-eqb (length (get_or c.args.tables.now 6 [])) table_bytes (search rules))
+          (eq-eqb (length (get_or c.args.tables.now 7 [])) table_bytes (search rules)),
     )

@@ -7,11 +7,11 @@ use Rattle.peers.proofs.one.encode_row.Goals as goal
 use Rattle.peers.proofs.one.encode_row.Goals.{Start}
 
 -- the type has eight
-eight : (c : Start) → length c.args.t1 ≡ 8
+eight : (c : Start) → length c.args.row ≡ 8
 eight c = search rules
 
 pub returns : goal.returns
 returns c =
     made c.encode.ensures.1 c.encode-2.ensures.1 c.encode-3.ensures.1
     c.encode-4.ensures.1 c.encode-5.ensures.1 c.encode-6.ensures.1
-    c.encode-7.ensures.1 c.encode-8.ensures.1 ∙ eight_slots c.args.t1 _ (eight (goal.at.returns c).Start)
+    c.encode-7.ensures.1 c.encode-8.ensures.1 ∙ eight_slots c.args.row _ (eight (goal.at.returns c).Start)
