@@ -43,10 +43,6 @@ id_members = byte ∷ record { row = Array u8 6; ty = ty_array (ty_int w8) 6 } �
 abbrev slot_members : List Member
 slot_members = record { row = (I.the_field).row; ty = I'.mir } ∷ byte ∷ []
 
-same_map : (xs : List ℕ) → map (λ (x : ℕ). x) xs ≡ xs
-same_map [] = refl
-same_map (x ∷ xs) = ap (λ (l : List ℕ). x ∷ l) (same_map xs)
-
 more : (xs ys : List ℕ) → length (xs ++ ys) ≡ length xs + length ys
 more [] ys = sym (zero-add (length ys))
 more (x ∷ xs) ys = ap suc (more xs ys) ∙ sym (suc-add (length xs) (length ys))
@@ -130,11 +126,11 @@ module _ {M : Type 1} {𝓤 : Ura M} (𝓛 : Logic 𝓤) (q : Share) (b : ℕ) w
       use1 𝓛 (‵ (parts_at q id_members 0 ((I.the_type).to s.id) b o) ⊛ raw (PartsBack 𝓛 q (I.the_type).name id_members b o)) (id_apart ((I.the_type).to s.id) o) $ split ! $ fsplit ! $
       rewrite ! 0 (λ (p : ℕ). ‵ (part_at u8 q s.id.kind b p)) (add-zero o) refl $ move ! (1 ∷ []) $ fsplit ! $
       -- [the address; true; the kind; the identity's way back; connected; the slot's way back]
-      use1 𝓛 (‵ ((arr_parts (shares u8) 6).part q (map (λ (x : ℕ). x) s.id.addr) b (o + 1))) (Array-apart 𝓛 u8 q tt 6 (map (λ (x : ℕ). x) s.id.addr) b (o + 1)) $ fsplit ! $ feq_l ! (λ len.
-      let six : length s.id.addr ≡ 6 = sym (ap length (same_map s.id.addr)) ∙ len in
+      use1 𝓛 (‵ ((arr_parts (shares u8) 6).part q s.id.addr b (o + 1))) (Array-apart 𝓛 u8 q tt 6 s.id.addr b (o + 1)) $ fsplit ! $ feq_l ! (λ len.
+      let six : length s.id.addr ≡ 6 = len in
       let last : o + 7 ≡ (o + 1) + length s.id.addr = omega (arith, six) in
       let eight : length (slot_laid s) ≡ 8 = ap suc (more s.id.addr (s.connected ∷ [])) ∙ omega (arith, six) in
-      rewrite ! 0 (λ (xs : List ℕ). ‵ (run xs (o + 1))) (same_map s.id.addr) refl $ move ! (4 ∷ []) $ fsplit ! $ rewrite ! 0 (λ (p : ℕ). ‵ (part_at u8 q s.connected b p)) last refl $
+      move ! (4 ∷ []) $ fsplit ! $ rewrite ! 0 (λ (p : ℕ). ‵ (part_at u8 q s.connected b p)) last refl $
       move ! (2 ∷ 0 ∷ []) $ use2 𝓛 (‵ (run (s.id.addr ++ (s.connected ∷ [])) (o + 1))) (snoc s.id.addr s.connected (o + 1)) $ move ! (3 ∷ 0 ∷ []) $ fjoin ! $
       feq_i ! ℕ (length (slot_laid s)) 8 eight $ fjoin ! $ use1 𝓛 (‵ (part_at (Array u8 8) q (slot_laid s) b o)) (Array-whole 𝓛 u8 q 8 (slot_laid s) b o) $ frame ! $
       -- [true; true; the identity's way back; the slot's]

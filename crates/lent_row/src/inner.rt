@@ -33,7 +33,8 @@ pub fn load(slots: &[Slot]) -> [Slot; SLOTS]
     let mut row = nobodys();
     let mut i = 0;
     while i < SLOTS {
-        row = with_slot(row, i, slots[i]);
+        let next = with_slot(row, i, slots[i]);
+        row = next;
         i += 1;
     }
     row

@@ -2,9 +2,9 @@
 -- nothing.
 use mathlib.Core.Bool.{true, false}
 use mathlib.Core.Path.{◌≡◌, sym, ◌∙◌}
-use Prim.Native.Nat.{◌+◌}
+use Prim.Native.Nat.{◌+◌, ◌≤◌}
 use native.Mathlib.Omega.{arith}
-use borrow.Author.Tests.{le-leb, lt-leb}
+use borrow.Author.Tests.{le-leb, lt-leb, not-true, not-false}
 use Rattle.wire.specs.Size.{table_bytes}
 use Rattle.state.specs.Fresh.{space_of}
 use Rattle.table_view.specs.Layout.{end_of}
@@ -15,8 +15,8 @@ pub returns-then-not-a : goal.returns-then-not-a
 returns-then-not-a c =
     (
       sym (le-leb (end_of c.args.out.now + space_of c.args.a) table_bytes
-          (omega (arith, c.requires.1, space_shared c.args.a c.if-not-a.true))),
-      λ t. sym (laid_shared c.args.a _ c.if-not-a.true),
+          (omega (arith, c.requires.1, space_shared c.args.a (not-true _ c.if-not-a.true)))),
+      λ t. sym (laid_shared c.args.a _ (not-true _ c.if-not-a.true)),
     )
 
 pub returns-then-values_end-space-gt-TABLE_SIZE : goal.returns-then-values_end-space-gt-TABLE_SIZE
@@ -27,13 +27,19 @@ returns-then-values_end-space-gt-TABLE_SIZE c =
             arith,
             c.values_end.ensures,
             c.space.ensures,
-            space_client c.args.a c.if-not-a.false,
+            space_client c.args.a (not-false _ c.if-not-a.false),
           ))),
       λ (t : false ≡ true). cc,
     )
 
 pub add-requires : goal.add-requires
-add-requires c = record { in_bounds = omega ( arith, c.requires.0, c.requires.1, c.requires.2, c.values_end.ensures, c.space.ensures, ); table_bytes_in_bounds = omega ( arith, c.requires.0, c.requires.1, c.requires.2, c.values_end.ensures, c.space.ensures, ) }
+add-requires c =
+    let room : end_of c.args.out.now + space_of c.args.a ≤ table_bytes =
+        omega (arith, c.values_end.ensures, c.space.ensures, space_client c.args.a (not-false _ c.if-not-a.false)) in
+    record {
+      in_bounds = omega (arith, c.requires.0, c.values_end.ensures, c.space.ensures);
+      table_bytes_in_bounds = omega (arith, c.requires.0, c.requires.2);
+    }
 
 pub returns : goal.returns
 returns c =
@@ -43,7 +49,7 @@ returns c =
             arith,
             c.values_end.ensures,
             c.space.ensures,
-            space_client c.args.a c.if-not-a.false,
+            space_client c.args.a (not-false _ c.if-not-a.false),
           ))),
-      λ t. c.add.ensures ∙ sym (laid_client c.args.a _ c.if-not-a.false),
+      λ t. c.add.ensures ∙ sym (laid_client c.args.a _ (not-false _ c.if-not-a.false)),
     )
