@@ -1,7 +1,5 @@
 -- `bench_opening::opening::copy_entries` is safe and ends: as many entries as both lists have. Assumes nothing.
-use mathlib.Core.Path.{◌≡◌}
-use lib.ListN.{length}
-use Prim.Native.Nat.{◌-◌, ◌≤◌}
+use Rattle.std.proofs.Common.{◌≡◌, ◌-◌, ◌≤◌, length}
 use Rattle.bench_opening.proofs.opening.copy_entries.Given as goal
 
 abbrev pub invariant-loop-i : goal.invariant-loop-i
