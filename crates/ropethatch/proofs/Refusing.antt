@@ -1,10 +1,8 @@
 -- A row of other than eight slots is in no valid state, so that connecting and leaving refuse it by 1 and leave all as
 -- it was. Assumes nothing.
-use mathlib.Core.Path.{◌≡◌, sym, ap, subst}
-use mathlib.Core.Bool.{Bool, true, false, not}
-use Prim.Native.Nat.{ℕ}
+use mathlib.Core.Path.{◌≡◌, ap}
+use mathlib.Core.Bool.{Bool, false}
 use lib.ListN.{length}
-use lib.Dec.{T, eqb, eqb→eq, eqb_refl, T_not}
 use Rattle.wire.specs.Size.{slot_count}
 use Rattle.table_view.specs.Told.{Told}
 use Rattle.peers.specs.Identity.{is_bad}
@@ -18,17 +16,6 @@ use Rattle.admission.specs.declared.Admission.{Admission}
 use Rattle.admission.specs.declared.Admission.TheVariants.{No}
 use Rattle.numbers.specs.Reply.{as_reply, reply_to}
 use Rattle.numbers.specs.declared.Reply.{Reply}
-
--- what the outcome of a test `x != k` says
-pub not_so : (x k : ℕ) → T (not (eqb x k)) → x ≡ k → ⊥
-not_so x k h e = T_not (eqb x k) h (subst (λ (y : ℕ). T (eqb y k)) (sym e) (eqb_refl k))
-
-so : (t : Bool) → T (not (not t)) → T t
-so true h = h
-so false h = h
-
-pub is_so : (x k : ℕ) → T (not (not (eqb x k))) → x ≡ k
-is_so x k h = eqb→eq x k (so (eqb x k) h)
 
 -- the reply of refusal 1
 abbrev pub one : Reply

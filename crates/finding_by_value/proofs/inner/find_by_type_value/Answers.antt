@@ -25,10 +25,7 @@ good c = sym c.is_bad.ensures ∙ c.if-is_bad.false
 -- the rows that the loop writes, by the room that is left
 abbrev rows : After-put_found-c → ℕ → List ℕ
 rows c =
-    let at_byte = c.before.before.before.before.before.before in
-    let at-is-bad = at_byte.before.before.before.before in
-    let at-start = at-is-bad.before.before.before.before in
-    let a = at-start.args in
+    let a = c.args in
     run (find_turn a.store.now (is_wanted a.g.start a.g.end (word_bytes a.uuid)) a.d.now) a.list.now
 
 pub returns-then-is_bad : goal.returns-then-is_bad
@@ -52,13 +49,13 @@ put_found-c-requires c = record { from_le_to = (
 
 pub returns-then-c-eq1 : goal.returns-then-c-eq1
 returns-then-c-eq1 c =
-    sent_as _ _ _ _ _ (error_sent _ _ _ _ _ _ _ (rows c.before.before.before.before.before.before.before.before) (omega (arith, c.requires.1)) c.new.ensures.0
+    sent_as _ _ _ _ _ (error_sent _ _ _ _ _ _ _ (rows (goal.at.returns-then-c-eq1 c).After-put_found-c) (omega (arith, c.requires.1)) c.new.ensures.0
     c.byte-c.ensures.0 c.byte-c.ensures.1 (found_rows _ _ _ _ _ _ _ c.stretch-p.ensures.0
     c.stretch-p.ensures.1 _ _ _ _ c.put_found-c.ensures) c.if-c-eq1.true _ _
     c.error_response-then-c-eq1.ensures) (good_range _ _ (good (goal.at.returns-then-c-eq1 c).Else-is_bad))
 
 pub returns : goal.returns
 returns c =
-    sent_as _ _ _ _ _ (rows_sent _ _ _ _ _ _ _ (rows c.before.before.before.before) (omega (arith, c.requires.1)) c.new.ensures.0
+    sent_as _ _ _ _ _ (rows_sent _ _ _ _ _ _ _ (rows (goal.at.returns c).After-put_found-c) (omega (arith, c.requires.1)) c.new.ensures.0
     c.byte-c.ensures.0 c.byte-c.ensures.1 (found_rows _ _ _ _ _ _ _ c.stretch-p.ensures.0
     c.stretch-p.ensures.1 _ _ _ _ c.put_found-c.ensures) c.if-c-eq1.false) (good_range _ _ (good (goal.at.returns c).Else-is_bad))

@@ -5,6 +5,7 @@ use mathlib.Core.Bool.{false}
 use mathlib.Core.List.{List}
 use Prim.Native.Nat.{ℕ}
 use native.Mathlib.Omega.{arith}
+use borrow.Author.Rules.{rules}
 use lib.ListN.{length, drop}
 use Rattle.attribute.specs.Lookup.{is_within}
 use Rattle.attribute_walk.proofs.Walks.{picks_all, first_within, none_within}
@@ -24,13 +25,8 @@ good c = sym c.is_bad.ensures ∙ c.if-is_bad.false
 -- the rows that the loop writes, by the room that is left
 abbrev rows : After-put_infos-c → ℕ → List ℕ
 rows c =
-    let at-format = c.before.before.before.before.before in
-    let at-uuid = at-format.before.before.before.before.before.before.before in
-    let at-stretch = at-uuid.before.before.before.before.before in
-    let at-start = at-stretch.before.before.before.before in
-    let a = at-start.args in
-    run (info_at (is_within a.g.start a.g.end) (length at-uuid.uuid.result.now))
-    (drop at-stretch.stretch.result.from a.list.now)
+    let a = c.args in
+    run (info_at (is_within a.g.start a.g.end) (length c.uuid-size.result.now)) (drop c.stretch-p.result.from a.list.now)
 
 pub returns-then-is_bad : goal.returns-then-is_bad
 returns-then-is_bad c =
@@ -49,13 +45,13 @@ put_infos-c-requires c =
       c.stretch-p.ensures.1.inside,
       info_room _ _ _ _ _ _ _ (omega (arith, c.requires.1)) c.new.ensures.0 c.byte-c.ensures.0
           c.byte-c.ensures.1 c.byte-c-2.ensures.0 c.byte-c-2.ensures.1,
-      uuid_short _ _ (uuid-requires c.before.before.before.before.before.before.before.before.before.before.before.before c.uuid-size.lifetimes) c.uuid-size.ensures,
+      uuid_short _ _ (search rules) c.uuid-size.ensures,
     )
 
 pub returns : goal.returns
 returns c =
     info_sent _ _ _ _ _ _ _ (omega (arith, c.requires.1)) c.new.ensures.0 c.byte-c.ensures.0
-    c.byte-c.ensures.1 c.byte-c-2.ensures.0 c.byte-c-2.ensures.1 _ _ _ (rows c.before.before)
+    c.byte-c.ensures.1 c.byte-c-2.ensures.0 c.byte-c-2.ensures.1 _ _ _ (rows (goal.at.returns c).After-put_infos-c)
     (c.put_infos-c.ensures _ (picks_all _ _ _ _ c.stretch-p.ensures.0 c.stretch-p.ensures.1))
     (rw c.format.ensures (first_found _ _ _ _ _ _
     (first_within _ _ _ _ c.stretch-p.ensures.0 c.stretch-p.ensures.1 c.if-p.false)
