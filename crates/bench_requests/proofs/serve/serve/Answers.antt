@@ -3,4 +3,4 @@ use Rattle.std.proofs.Common.{arith, length-take}
 use Rattle.bench_requests.proofs.serve.serve.Goals as goal
 
 pub slice_bounds-process-end : goal.slice_bounds-process-end
-slice_bounds-process-end c = simp length-take (omega arith)
+slice_bounds-process-end g c = simp length-take (omega arith)
