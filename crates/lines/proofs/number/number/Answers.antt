@@ -1,4 +1,4 @@
-use Rattle.std.proofs.Common.{◌-◌, arith}
+use Rattle.std.proofs.Common.{arith}
 use Rattle.lines.proofs.number.number.Goals as goal
 
 pub bounds-w-i : goal.bounds-w-i

@@ -1,4 +1,4 @@
-use Rattle.std.proofs.Common.{◌-◌, arith}
+use Rattle.std.proofs.Common.{arith}
 use Rattle.lines.proofs.number.pairs.Goals as goal
 
 pub overflow_mul-i : goal.overflow_mul-i

@@ -1,4 +1,4 @@
-use Rattle.std.proofs.Common.{◌-◌, arith, length-drop, length-take}
+use Rattle.std.proofs.Common.{arith, length-drop, length-take}
 use Rattle.lines.proofs.say.hex.Goals as goal
 
 pub say-requires : goal.say-requires

@@ -1,4 +1,4 @@
-use Rattle.std.proofs.Common.{◌-◌, arith}
+use Rattle.std.proofs.Common.{arith}
 use Rattle.lines.proofs.say.zeros.Goals as goal
 
 pub overflow_add-i : goal.overflow_add-i

@@ -1,4 +1,4 @@
-use Rattle.std.proofs.Common.{◌-◌, arith}
+use Rattle.std.proofs.Common.{arith}
 use Rattle.lines.proofs.words.count.Goals as goal
 
 pub bounds-line-i : goal.bounds-line-i

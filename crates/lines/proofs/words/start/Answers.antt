@@ -1,4 +1,4 @@
-use Rattle.std.proofs.Common.{◌-◌, arith}
+use Rattle.std.proofs.Common.{arith}
 use Rattle.lines.proofs.words.start.Goals as goal
 
 pub bounds-line-i : goal.bounds-line-i
