@@ -42,7 +42,7 @@ fn link(dir: PathBuf) {
     println!("cargo:rerun-if-changed={}", archive.display());
     if !archive.is_file() {
         fail(&format!(
-            "there is no {}; build it at the project's root with `rt staticlib ropethatch`, \
+            "there is no {}; build it at the project's root with `tools/library`, \
              or name the folder that holds libropethatch.a in ROPETHATCH_LIB_DIR",
             archive.display()
         ));

@@ -13,15 +13,13 @@ add-requires c =
     record { in_bounds = omega (arith, a.key, a.room); table_bytes_in_bounds = omega (arith, a.key, a.room) }
 
 pub returns-in-Added : goal.returns-in-Added
-returns-in-Added c =
-    (
-      ap told_pushed c.judge-plan.ensures,
-      rw (sym c.judge-plan.ensures ∙ c.in-Added.is) c.add.ensures,
-    )
+returns-in-Added c = (
+  ap told_pushed c.judge-plan.ensures,
+  rw (sym c.judge-plan.ensures ∙ c.in-Added.is) c.add.ensures,
+)
 
 pub returns-in_default : goal.returns-in_default
-returns-in_default c =
-    (
-      ap told_pushed c.judge-plan.ensures,
-      stays _ _ _ (λ e. c.in_default.not-Added (c.judge-plan.ensures ∙ e)),
-    )
+returns-in_default c = (
+  ap told_pushed c.judge-plan.ensures,
+  stays _ _ _ (λ e. c.in_default.not-Added (c.judge-plan.ensures ∙ e)),
+)

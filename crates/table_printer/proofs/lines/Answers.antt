@@ -1,5 +1,4 @@
 use mathlib.Core.Path.{◌∙◌}
-use Prim.Native.Nat.{◌-◌}
 use native.Mathlib.Omega.{arith}
 use Rattle.table_view.proofs.Shape.{long}
 use Rattle.table_printer.proofs.Putting.{entry_short, entry_more, entry_end, all_put, all_going, heading_short, entries_short}

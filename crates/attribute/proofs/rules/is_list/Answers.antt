@@ -1,5 +1,4 @@
 use mathlib.Core.Path.{sym, ◌∙◌}
-use Prim.Native.Nat.{◌-◌}
 use native.Mathlib.Omega.{arith}
 use Rattle.attribute.proofs.Reading.{good_entry, bad_entry, no_entry, too_many, too_large, by_entries}
 use Rattle.attribute.proofs.rules.is_list.Goals as goal

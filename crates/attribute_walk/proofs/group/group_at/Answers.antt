@@ -1,5 +1,4 @@
 use mathlib.Core.Path.{sym, ◌∙◌}
-use Prim.Native.Nat.{◌-◌}
 use native.Mathlib.Omega.{arith}
 use Rattle.attribute_walk.proofs.Groups.{passed_one, passed_more, passed_stops, passed_ends}
 use Rattle.attribute_walk.proofs.group.group_at.Goals as goal

@@ -2,7 +2,6 @@ use mathlib.Core.Bool.{false}
 use mathlib.Core.List.{[]}
 use mathlib.Core.Path.{◌≡◌, refl, sym, ◌∙◌}
 use lib.ListN.{get_or}
-use Prim.Native.Nat.{◌-◌}
 use native.Mathlib.Omega.{arith}
 use Rattle.attribute_walk.specs.Walk.{is_of_type}
 use Rattle.attribute_walk.proofs.Walks.{stretch_hit, stretch_miss, stretch_end, match_not}

@@ -1,4 +1,3 @@
-use Prim.Native.Nat.{◌-◌}
 use Rattle.attribute_walk.proofs.Halves.{halved_start, halved_up, halved_down, halved_end}
 use native.Mathlib.Omega.{arith}
 use Rattle.attribute_walk.proofs.walk.place_from.Goals as goal

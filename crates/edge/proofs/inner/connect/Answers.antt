@@ -13,21 +13,18 @@ use Rattle.numbers.specs.Reply.{reply_to}
 use Rattle.edge.proofs.Joining.{joined}
 use borrow.Author.Rules.{rules}
 use Rattle.edge.proofs.inner.connect.Goals as goal
-use Rattle.edge.proofs.inner.connect.Goals.{After-bytes-1, After-join-m, Start}
+use Rattle.edge.proofs.inner.connect.Goals.{After-join-m}
 
-eight : (c : Start) → length c.args.row ≡ slot_count
-eight c = search rules
-
-made : (c : After-join-m) → let a = c.args in c.join-m.result ≡ connecting a.row a.who
+made : (c : After-join-m) → c.join-m.result ≡ connecting c.args.row c.args.who
 made c =
-    c.join-m.ensures ∙ join_is _ _ _ _ _ c.requires.0 c.requires.1 (sym (eight c.before.before))
-
-in_bytes : (c : After-bytes-1) →
-    c.join-m.result ≡ connecting (row_of c.encode_row-bytes.result) c.args.who
-in_bytes c = rw c.encode_row-bytes.ensures (made c.before.before)
+    let eight : length c.args.row ≡ slot_count = search rules in
+    c.join-m.ensures ∙ join_is _ _ _ _ _ c.requires.0 c.requires.1 (sym eight)
 
 pub act-requires : goal.act-requires
-act-requires c = joins_inside c.encode_row-bytes.result _ _ (in_bytes (goal.at.act-requires c).After-bytes-1)
+act-requires c =
+    let m : c.join-m.result ≡ connecting (row_of c.encode_row-bytes.result) c.args.who =
+        rw c.encode_row-bytes.ensures (made (goal.at.act-requires c).After-join-m) in
+    joins_inside c.encode_row-bytes.result _ _ m
 
 pub returns : goal.returns
 returns c =
@@ -37,4 +34,5 @@ returns c =
     (record { reply = n.0; place = n.1; slot = n.2 }) c.encode_row-bytes.result _ c.encode_row-bytes.ensures
     c.act.ensures in
     let s = state a.list.now a.store.now a.row a.tables.now in
-    (w.0 ∙ ap (λ (m : Move). reply_to (move_told s a.who m)) (made (goal.at.returns c).After-join-m), w.1 ∙ ap (move_left s a.who) (made (goal.at.returns c).After-join-m))
+    let m = made (goal.at.returns c).After-join-m in
+    (w.0 ∙ ap (λ (m : Move). reply_to (move_told s a.who m)) m, w.1 ∙ ap (move_left s a.who) m)

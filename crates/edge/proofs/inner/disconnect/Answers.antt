@@ -2,6 +2,9 @@
 -- nothing.
 use mathlib.Core.Path.{◌≡◌, sym, ap, ◌∙◌}
 use mathlib.Core.List.{List}
+use Prim.Native.Nat.{ℕ}
+use Rattle.peers.specs.declared.Identity.{Identity}
+use Rattle.peers.specs.declared.Seated.{Seated}
 use Rattle.peers.specs.Bytes.{row_of}
 use Rattle.peers.specs.Slots.{slot_of, leaving}
 use Rattle.peers.specs.declared.Slot.{Slot}
@@ -14,24 +17,23 @@ use Rattle.numbers.specs.Reply.{reply_to}
 use Rattle.numbers.specs.Request.{is_set}
 use Rattle.edge.proofs.Joining.{joined}
 use Rattle.edge.proofs.inner.disconnect.Goals as goal
-use Rattle.edge.proofs.inner.disconnect.Goals.{After-encode_row-bytes, After-part-m}
+use Rattle.edge.proofs.inner.disconnect.Goals.{After-part-m}
 
-own-bytes : (c : After-encode_row-bytes)
-    → let a = c.args in
-    a.own ≡ slot_of (row_of c.encode_row-bytes.result) a.who
-own-bytes c =
-    c.requires ∙ ap (λ (row : List Slot). slot_of row c.args.who) (sym c.encode_row-bytes.ensures)
+-- the own slot is the same in the row's bytes
+own_in : (own : Seated) (row : List Slot) (bytes : List (List ℕ)) (who : Identity) → own ≡ slot_of row who → row_of bytes ≡ row
+    → own ≡ slot_of (row_of bytes) who
+own_in own row bytes who e r = e ∙ ap (λ (row : List Slot). slot_of row who) (sym r)
 
 in_bytes : (c : After-part-m) →
     let a = c.args in
     c.part-m.result ≡ leaving (row_of c.encode_row-bytes.result) a.who (is_set a.bonded)
-in_bytes c = c.part-m.ensures ∙ part_is _ _ _ _ (own-bytes c.before.before)
+in_bytes c = c.part-m.ensures ∙ part_is _ _ _ _ (own_in _ _ _ _ c.requires c.encode_row-bytes.ensures)
 
 pub part-m-requires : goal.part-m-requires
 part-m-requires c =
     let a = c.args in
     rw (length_row c.encode_row-bytes.result) at (found_inside (row_of c.encode_row-bytes.result) a.who _
-    (own-bytes (goal.at.part-m-requires c).After-encode_row-bytes))
+    (own_in _ _ _ _ c.requires c.encode_row-bytes.ensures))
 
 pub act-requires : goal.act-requires
 act-requires c =

@@ -4,7 +4,6 @@ use borrow.Author.Tests.{lt-leb, le-leb}
 use lib.Dec.{leb}
 use mathlib.Core.List.{[]}
 use lib.ListN.{get_or}
-use Prim.Native.Nat.{◌-◌}
 use mathlib.Core.Path.{refl}
 use native.Mathlib.Omega.{arith}
 use Rattle.eight_tables.proofs.inner.at_most.Goals as goal

@@ -1,6 +1,5 @@
 use Rattle.eight_tables.proofs.Columns.{column_turn, column_end}
 use Rattle.wire.specs.Test.{both}
-use Prim.Native.Nat.{◌-◌}
 use mathlib.Core.Path.{refl}
 use native.Mathlib.Omega.{arith}
 use Rattle.eight_tables.proofs.inner.same_part.Goals as goal

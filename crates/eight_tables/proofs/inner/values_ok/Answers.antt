@@ -1,7 +1,6 @@
 use Rattle.eight_tables.proofs.Values.{first_value, next_value, bad_value, last_value}
 use Rattle.table_builder.proofs.Laws.{is_table}
 use Rattle.table_view.proofs.Shape.{long}
-use Prim.Native.Nat.{◌-◌}
 use mathlib.Core.Path.{sym, ◌∙◌}
 use native.Mathlib.Omega.{arith}
 use Rattle.eight_tables.proofs.inner.values_ok.Goals as goal

@@ -1,6 +1,5 @@
 use Rattle.eight_tables.proofs.Columns.{column_turn, column_end}
 use Rattle.wire.specs.Test.{both}
-use Prim.Native.Nat.{◌-◌}
 use mathlib.Core.List.{[]}
 use mathlib.Core.Path.{refl}
 use native.Mathlib.Omega.{arith}

@@ -1,5 +1,4 @@
 use mathlib.Core.Path.{sym, ◌∙◌}
-use Prim.Native.Nat.{◌-◌}
 use native.Mathlib.Omega.{arith}
 use Rattle.attribute_walk.proofs.Groups.{no_group, group_here, group_later}
 use Rattle.attribute_walk.proofs.Walks.{may_not}

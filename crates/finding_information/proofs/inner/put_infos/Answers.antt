@@ -1,4 +1,3 @@
-use Prim.Native.Nat.{◌-◌}
 use native.Mathlib.Omega.{arith}
 use Rattle.model.proofs.Along.{along_start, along_more, along_stop, along_end}
 use Rattle.finding_information.proofs.Infos.{info_as, info_skip}

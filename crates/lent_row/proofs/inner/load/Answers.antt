@@ -1,4 +1,3 @@
-use mathlib.Core.Path.{◌∙◌}
 use native.Mathlib.Omega.{arith}
 use Rattle.lent_row.proofs.Loading.{load_more, load_end, load_start}
 use Rattle.lent_row.proofs.inner.load.Goals as goal

@@ -1,5 +1,4 @@
 use mathlib.Core.Path.{refl, sym, ◌∙◌}
-use Prim.Native.Nat.{◌-◌}
 use Rattle.peers.proofs.Laws.{row_hit, row_miss, row_end}
 use native.Mathlib.Omega.{arith}
 use Rattle.peers.proofs.inner.first.Goals as goal

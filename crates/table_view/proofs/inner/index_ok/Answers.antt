@@ -1,5 +1,4 @@
 use mathlib.Core.Path.{sym, ◌∙◌}
-use Prim.Native.Nat.{◌-◌}
 use native.Mathlib.Omega.{arith}
 use Rattle.table_view.proofs.Reading.{first_entry, next_entry, bad_entry, last_entry}
 use Rattle.table_view.proofs.inner.index_ok.Goals as goal
@@ -31,12 +30,11 @@ pub loop-i-smaller : goal.loop-i-smaller
 loop-i-smaller c = omega arith
 
 pub loop-i-preserved : goal.loop-i-preserved
-loop-i-preserved c =
-    (
-      omega arith,
-      rw (c.key_at-last.ensures, c.offset_at-from.ensures.0) (next_entry _ _ _ _ _ _ c.loop-i.invariant.1
-          c.loop-i-test.true (sym c.entry_ok.ensures ∙ c.if-not-entry_ok.false)),
-    )
+loop-i-preserved c = (
+  omega arith,
+  rw (c.key_at-last.ensures, c.offset_at-from.ensures.0) (next_entry _ _ _ _ _ _ c.loop-i.invariant.1
+      c.loop-i-test.true (sym c.entry_ok.ensures ∙ c.if-not-entry_ok.false)),
+)
 
 pub returns : goal.returns
 returns c = last_entry _ _ _ _ _ _ c.loop-i.invariant.1 c.loop-i-test.false

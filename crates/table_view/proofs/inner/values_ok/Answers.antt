@@ -1,5 +1,4 @@
 use mathlib.Core.Path.{sym, ◌∙◌}
-use Prim.Native.Nat.{◌-◌}
 use native.Mathlib.Omega.{arith}
 use Rattle.table_view.proofs.Reading.{first_value, next_value, bad_value, last_value}
 use Rattle.table_view.proofs.Shape.{between}
@@ -28,12 +27,11 @@ pub loop-i-smaller : goal.loop-i-smaller
 loop-i-smaller c = omega arith
 
 pub loop-i-preserved : goal.loop-i-preserved
-loop-i-preserved c =
-    (
-      omega arith,
-      next_value _ _ _ _ c.loop-i.invariant.1 c.loop-i-test.true
-          (sym c.value_ok.ensures ∙ c.if-not-value_ok.false),
-    )
+loop-i-preserved c = (
+  omega arith,
+  next_value _ _ _ _ c.loop-i.invariant.1 c.loop-i-test.true
+      (sym c.value_ok.ensures ∙ c.if-not-value_ok.false),
+)
 
 pub returns : goal.returns
 returns c = last_value _ _ _ _ c.loop-i.invariant.1 c.loop-i-test.false

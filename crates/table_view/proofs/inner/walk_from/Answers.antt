@@ -1,4 +1,3 @@
-use Prim.Native.Nat.{◌-◌}
 use native.Mathlib.Omega.{arith}
 use Rattle.table_view.proofs.Search.{comes_on, stops_at_key, stops_at_end}
 use Rattle.table_view.proofs.Shape.{long, fits}

@@ -1,9 +1,6 @@
 -- The proof of the cycle of calls {decimal}: the tenth of a number of two digits or more is less than it. Assumes
 -- nothing.
-use Prim.Native.Nat.{◌+◌, ◌/◌, ◌<◌}
 use native.Mathlib.Omega.{arith}
-use Rattle.text.specs.Decimal.{decimal_of}
-use Rattle.text.specs.Put.{Short}
 use Rattle.text.proofs.Digits.{one_long, one_longer, digit_put, last_put}
 use Rattle.text.proofs.inner.+decimal.Goals as goal
 

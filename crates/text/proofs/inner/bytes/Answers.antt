@@ -1,4 +1,3 @@
-use Prim.Native.Nat.{◌-◌}
 use native.Mathlib.Omega.{arith}
 use Rattle.text.proofs.Pieces.{going_start}
 use Rattle.text.proofs.Turns.{byte_short, byte_more, byte_end}

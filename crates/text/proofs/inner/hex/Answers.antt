@@ -1,4 +1,3 @@
-use Prim.Native.Nat.{◌-◌}
 use native.Mathlib.Omega.{arith}
 use Rattle.text.proofs.Pieces.{going_start}
 use Rattle.text.proofs.Turns.{pair_short, pair_more, pair_end}

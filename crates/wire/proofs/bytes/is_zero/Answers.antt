@@ -1,5 +1,4 @@
 use mathlib.Core.Path.{refl}
-use Prim.Native.Nat.{◌-◌}
 use native.Mathlib.Omega.{arith}
 use Rattle.wire.specs.Test.{both}
 use Rattle.wire.proofs.Fold.{zeros_turn, zeros_end}

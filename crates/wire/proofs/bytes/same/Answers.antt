@@ -1,5 +1,4 @@
 use mathlib.Core.Path.{refl}
-use Prim.Native.Nat.{◌-◌}
 use native.Mathlib.Omega.{arith}
 use Rattle.wire.specs.Test.{both}
 use Rattle.wire.proofs.Fold.{alike_turn, alike_end, other_length}
@@ -25,12 +24,11 @@ pub loop-i-smaller : goal.loop-i-smaller
 loop-i-smaller c = omega arith
 
 pub loop-i-preserved : goal.loop-i-preserved
-loop-i-preserved c =
-    (
-      omega arith,
-      alike_turn c.args.a.now c.args.b.now c.loop-i.acc _ _ c.loop-i.invariant.1
-          c.loop-i-test.true (omega arith),
-    )
+loop-i-preserved c = (
+  omega arith,
+  alike_turn c.args.a.now c.args.b.now c.loop-i.acc _ _ c.loop-i.invariant.1
+      c.loop-i-test.true (omega arith),
+)
 
 pub returns : goal.returns
 returns c =

@@ -1,7 +1,6 @@
 use Rattle.wire.proofs.Sets.{store, stored}
 use lib.ListN.{length-set}
 use native.Mathlib.Nat.{add-zero}
-use Prim.Native.Nat.{◌-◌}
 use mathlib.Core.Path.{refl}
 use native.Mathlib.Omega.{arith}
 use Rattle.wire.proofs.inner.copy.Goals as goal
