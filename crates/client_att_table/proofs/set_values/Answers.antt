@@ -11,11 +11,10 @@ pub returns-then-not-is_table-2 : goal.returns-then-not-is_table-2
 returns-then-not-is_table-2 c = set_refused _ _ (both_false_r _ _ (sym c.is_table-2.ensures ∙ c.if-not-is_table-2.true))
 
 pub set_values-requires : goal.set_values-requires
-set_values-requires c =
-    (
-      sym c.is_table.ensures ∙ c.if-not-is_table.false,
-      sym c.is_table-2.ensures ∙ c.if-not-is_table-2.false,
-    )
+set_values-requires c = (
+  sym c.is_table.ensures ∙ c.if-not-is_table.false,
+  sym c.is_table-2.ensures ∙ c.if-not-is_table-2.false,
+)
 
 pub returns : goal.returns
 returns c =

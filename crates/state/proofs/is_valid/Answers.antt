@@ -30,12 +30,11 @@ pub returns-then-not-lay_out : goal.returns-then-not-lay_out
 returns-then-not-lay_out c = too_long_lem _ (leb-false _ table_bytes (sym c.lay_out.ensures.0 ∙ c.if-not-lay_out.true))
 
 pub slots_ok-requires : goal.slots_ok-requires
-slots_ok-requires c =
-    (
-      c.if-tables-ne-SLOTS.false,
-      rw (c.lay_out.ensures.1 c.if-not-lay_out.false) (laid_builder _),
-      c.if-row-ne-SLOTS.false,
-    )
+slots_ok-requires c = (
+  c.if-tables-ne-SLOTS.false,
+  rw (c.lay_out.ensures.1 c.if-not-lay_out.false) (laid_builder _),
+  c.if-row-ne-SLOTS.false,
+)
 
 pub returns : goal.returns
 returns c =

@@ -36,10 +36,13 @@ pub answer-requires : goal.answer-requires
 answer-requires c =
     let a = c.args in
     let w = admitted _ _ _ (sym c.admit_request.ensures ∙ c.in_default.is) in
-    record { ready_to_store = (
+    record {
+      ready_to_store = (
         rw c.slot_for-slot.ensures (ready_given _ a.who (without_record _ _ w.right) a.rq),
         with_record _ _ w.right,
-      ); bytes_len = (search rules, omega (arith, room_enough _ _ _ w.buffer), request_fits _ _ _ w.buffer) }
+      );
+      bytes_len = (search rules, omega (arith, room_enough _ _ _ w.buffer), request_fits _ _ _ w.buffer);
+    }
 
 pub returns : goal.returns
 returns c =

@@ -10,12 +10,11 @@ returns-in-No c =
     told_no _ _ _ (sym c.admit.ensures ∙ c.in-No.is)
 
 pub is_subscribed-requires : goal.is_subscribed-requires
-is_subscribed-requires c =
-    (
-      rw c.first-slot.ensures
-          (slot_ready _ c.args.who (admitted _ _ _ (sym c.admit.ensures ∙ c.in_default.is)).right),
-      c.requires,
-    )
+is_subscribed-requires c = (
+  rw c.first-slot.ensures
+      (slot_ready _ c.args.who (admitted _ _ _ (sym c.admit.ensures ∙ c.in_default.is)).right),
+  c.requires,
+)
 
 pub returns-then-is_subscribed : goal.returns-then-is_subscribed
 returns-then-is_subscribed c =

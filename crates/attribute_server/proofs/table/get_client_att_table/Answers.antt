@@ -11,12 +11,11 @@ returns-in-No c =
     no_answer _ _ _ _ _ _ (sym c.admit.ensures ∙ c.in-No.is)
 
 pub get_client_att_table-requires : goal.get_client_att_table-requires
-get_client_att_table-requires c =
-    (
-      rw c.first-slot.ensures (slot_ready _ c.args.who
-          (admitted _ _ _ (sym c.admit.ensures ∙ c.in_default.is)).right),
-      search rules,
-    )
+get_client_att_table-requires c = (
+  rw c.first-slot.ensures (slot_ready _ c.args.who
+      (admitted _ _ _ (sym c.admit.ensures ∙ c.in_default.is)).right),
+  search rules,
+)
 
 pub returns : goal.returns
 returns c =

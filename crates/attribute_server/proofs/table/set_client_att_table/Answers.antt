@@ -9,11 +9,10 @@ use Rattle.state.specs.State.{lent}
 use Rattle.attribute_server.proofs.table.set_client_att_table.Goals as goal
 
 pub returns-in-No : goal.returns-in-No
-returns-in-No c =
-    (
-      told_no _ _ _ (sym c.admit.ensures ∙ c.in-No.is),
-      left_no _ _ _ _ (sym c.admit.ensures ∙ c.in-No.is),
-    )
+returns-in-No c = (
+  told_no _ _ _ (sym c.admit.ensures ∙ c.in-No.is),
+  left_no _ _ _ _ (sym c.admit.ensures ∙ c.in-No.is),
+)
 
 pub set_client_att_table-requires : goal.set_client_att_table-requires
 set_client_att_table-requires c =

@@ -32,11 +32,11 @@ pub loop-i-preserved : goal.loop-i-preserved
 loop-i-preserved c =
     let here = get_or c.args.list.now c.loop-i.i [] in
     let missed : is_of_type c.args.uuid.now here ≡ false =
-        elim c.if-may_match.branch [
-          then-may_match+else-is_type w ↦ sym w.is_type.ensures ∙ w.if-is_type.false
-        | else-may_match w ↦
-            match_not _ _ _ c.may_match.ensures.1 c.requires.1 (sym c.may_match.ensures.0 ∙ w.if-may_match.false)
-        ] in
+    elim c.if-may_match.branch [
+      | then-may_match+else-is_type w ↦ sym w.is_type.ensures ∙ w.if-is_type.false
+      | else-may_match w ↦
+          match_not _ _ _ c.may_match.ensures.1 c.requires.1 (sym c.may_match.ensures.0 ∙ w.if-may_match.false)
+    ] in
     sym (stretch_miss (is_of_type _) c.args.list.now _ _ c.requires.0 c.loop-i-test.true missed) ∙ c.loop-i.invariant
 
 pub returns : goal.returns

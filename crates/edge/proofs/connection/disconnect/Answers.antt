@@ -4,8 +4,7 @@ use Rattle.numbers.proofs.Telling.{replied}
 use Rattle.edge.proofs.connection.disconnect.Goals as goal
 
 pub returns : goal.returns
-returns c =
-    (
-      replied c.disconnect-a.result _ _ c.disconnect-a.ensures.0 c.reply.ensures,
-      c.disconnect-a.ensures.1,
-    )
+returns c = (
+  replied c.disconnect-a.result _ _ c.disconnect-a.ensures.0 c.reply.ensures,
+  c.disconnect-a.ensures.1,
+)

@@ -23,7 +23,7 @@ made c =
 pub act-requires : goal.act-requires
 act-requires c =
     let m : c.join-m.result ≡ connecting (row_of c.encode_row-bytes.result) c.args.who =
-        rw c.encode_row-bytes.ensures (made (goal.at.act-requires c).After-join-m) in
+    rw c.encode_row-bytes.ensures (made (goal.at.act-requires c).After-join-m) in
     joins_inside c.encode_row-bytes.result _ _ m
 
 pub returns : goal.returns

@@ -7,24 +7,21 @@ use Rattle.numbers.specs.Reply.{reply_to}
 use Rattle.edge.proofs.opening.new.Goals as goal
 
 pub returns-in-Done : goal.returns-in-Done
-returns-in-Done c =
-    (
-      ap (λ (o : Opened). reply_to (told_opened o)) (sym c.in-Done.is) ∙ ap reply_to c.new-o.ensures.0,
-      c.new-o.ensures.1,
-    )
+returns-in-Done c = (
+  ap (λ (o : Opened). reply_to (told_opened o)) (sym c.in-Done.is) ∙ ap reply_to c.new-o.ensures.0,
+  c.new-o.ensures.1,
+)
 
 pub returns-in-BadList : goal.returns-in-BadList
-returns-in-BadList c =
-    (
-      c.refused.ensures ∙ ap (λ (o : Opened). reply_to (told_opened o)) (sym c.in-BadList.is) ∙ ap reply_to
-          c.new-o.ensures.0,
-      c.new-o.ensures.1,
-    )
+returns-in-BadList c = (
+  c.refused.ensures ∙ ap (λ (o : Opened). reply_to (told_opened o)) (sym c.in-BadList.is) ∙ ap reply_to
+      c.new-o.ensures.0,
+  c.new-o.ensures.1,
+)
 
 pub returns-in-TooLong : goal.returns-in-TooLong
-returns-in-TooLong c =
-    (
-      c.refused-in-TooLong.ensures ∙ ap (λ (o : Opened). reply_to (told_opened o)) (sym c.in-TooLong.is) ∙ ap reply_to
-          c.new-o.ensures.0,
-      c.new-o.ensures.1,
-    )
+returns-in-TooLong c = (
+  c.refused-in-TooLong.ensures ∙ ap (λ (o : Opened). reply_to (told_opened o)) (sym c.in-TooLong.is) ∙ ap reply_to
+      c.new-o.ensures.0,
+  c.new-o.ensures.1,
+)

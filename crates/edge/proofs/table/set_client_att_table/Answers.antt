@@ -4,9 +4,8 @@ use Rattle.numbers.proofs.Telling.{replied}
 use Rattle.edge.proofs.table.set_client_att_table.Goals as goal
 
 pub returns : goal.returns
-returns c =
-    (
-      replied c.set_client_att_table-a.result _ _ c.set_client_att_table-a.ensures.0
-          c.reply.ensures,
-      c.set_client_att_table-a.ensures.1,
-    )
+returns c = (
+  replied c.set_client_att_table-a.result _ _ c.set_client_att_table-a.ensures.0
+      c.reply.ensures,
+  c.set_client_att_table-a.ensures.1,
+)

@@ -33,13 +33,12 @@ pub loop-k-smaller : goal.loop-k-smaller
 loop-k-smaller c = omega arith
 
 pub loop-k-preserved : goal.loop-k-preserved
-loop-k-preserved c =
-    (
-      omega arith,
-      next_table (λ t. leb (word t c.args.at) c.args.n) c.args.tables.now _ _ c.loop-k.invariant.1
-          (omega arith) (le-leb (word (get_or c.args.tables.now c.loop-k.k []) c.args.at) _
-          (omega (arith, c.number.ensures.0))),
-    )
+loop-k-preserved c = (
+  omega arith,
+  next_table (λ t. leb (word t c.args.at) c.args.n) c.args.tables.now _ _ c.loop-k.invariant.1
+      (omega arith) (le-leb (word (get_or c.args.tables.now c.loop-k.k []) c.args.at) _
+      (omega (arith, c.number.ensures.0))),
+)
 
 pub returns : goal.returns
 returns c =

@@ -21,19 +21,17 @@ pub loop-j-smaller : goal.loop-j-smaller
 loop-j-smaller c = omega arith
 
 pub loop-j-preserved : goal.loop-j-preserved
-loop-j-preserved c =
-    (
-      omega arith,
-      omega arith,
-      column_turn c.args.fresh.now c.args.tables.now c.loop-j.acc _ _ _ _ c.loop-j.invariant.2
-          c.loop-j-test.true c.column-acc.ensures.0,
-      λ h. c.column-acc.ensures.1,
-    )
+loop-j-preserved c = (
+  omega arith,
+  omega arith,
+  column_turn c.args.fresh.now c.args.tables.now c.loop-j.acc _ _ _ _ c.loop-j.invariant.2
+      c.loop-j-test.true c.column-acc.ensures.0,
+  λ h. c.column-acc.ensures.1,
+)
 
 pub returns : goal.returns
-returns c =
-    (
-      column_end c.args.fresh.now c.args.tables.now c.loop-j.acc 0 _ _ _ c.loop-j.invariant.2
-          c.loop-j-test.false,
-      λ h. c.loop-j.invariant.3 (omega arith),
-    )
+returns c = (
+  column_end c.args.fresh.now c.args.tables.now c.loop-j.acc 0 _ _ _ c.loop-j.invariant.2
+      c.loop-j-test.false,
+  λ h. c.loop-j.invariant.3 (omega arith),
+)

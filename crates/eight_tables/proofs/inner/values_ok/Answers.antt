@@ -26,13 +26,12 @@ pub loop-i-smaller : goal.loop-i-smaller
 loop-i-smaller c = omega arith
 
 pub loop-i-preserved : goal.loop-i-preserved
-loop-i-preserved c =
-    (
-      c.loop-i.invariant.0,
-      omega arith,
-      next_value c.args.tables.now _ _ _ c.loop-i.invariant.2 c.loop-i-test.true
-          (sym c.value_ok.ensures ∙ c.if-not-value_ok.false),
-    )
+loop-i-preserved c = (
+  c.loop-i.invariant.0,
+  omega arith,
+  next_value c.args.tables.now _ _ _ c.loop-i.invariant.2 c.loop-i-test.true
+      (sym c.value_ok.ensures ∙ c.if-not-value_ok.false),
+)
 
 pub returns : goal.returns
 returns c =

@@ -19,13 +19,12 @@ pub loop-j-smaller : goal.loop-j-smaller
 loop-j-smaller c = omega arith
 
 pub loop-j-preserved : goal.loop-j-preserved
-loop-j-preserved c =
-    (
-      omega arith,
-      omega arith,
-      column_turn [] c.args.tables.now c.loop-j.acc _ _ _ _ c.loop-j.invariant.2 c.loop-j-test.true
-          c.column-acc.ensures.0,
-    )
+loop-j-preserved c = (
+  omega arith,
+  omega arith,
+  column_turn [] c.args.tables.now c.loop-j.acc _ _ _ _ c.loop-j.invariant.2 c.loop-j-test.true
+      c.column-acc.ensures.0,
+)
 
 pub returns : goal.returns
 returns c =

@@ -37,15 +37,18 @@ stretch-p-requires c =
     ascending _ _ c.requires.0
 
 pub put_found-c-requires : goal.put_found-c-requires
-put_found-c-requires c = record { from_le_to = (
-        ordered _ _ _ _ c.stretch-p.ensures.0 c.stretch-p.ensures.1 (in_order _ (good (goal.at.put_found-c-requires c).Else-is_bad)),
-        c.stretch-p.ensures.1.inside,
-        short_word _,
-      ); store_value = (
-        c.requires.0,
-        find_room _ _ _ _ (omega (arith, c.requires.1)) c.new.ensures.0 c.byte-c.ensures.0
-            c.byte-c.ensures.1,
-      ) }
+put_found-c-requires c = record {
+  from_le_to = (
+    ordered _ _ _ _ c.stretch-p.ensures.0 c.stretch-p.ensures.1 (in_order _ (good (goal.at.put_found-c-requires c).Else-is_bad)),
+    c.stretch-p.ensures.1.inside,
+    short_word _,
+  );
+  store_value = (
+    c.requires.0,
+    find_room _ _ _ _ (omega (arith, c.requires.1)) c.new.ensures.0 c.byte-c.ensures.0
+        c.byte-c.ensures.1,
+  );
+}
 
 pub returns-then-c-eq1 : goal.returns-then-c-eq1
 returns-then-c-eq1 c =

@@ -25,12 +25,11 @@ next_group-group-requires c =
     (omega arith, c.loop-i.invariant.1)
 
 pub found_row-c-requires : goal.found_row-c-requires
-found_row-c-requires c =
-    (
-      omega arith,
-      c.loop-i.invariant.0.room,
-      group_here c.args.list.now _ _ c.next_group-group.ensures.0 c.next_group-group.ensures.1,
-    )
+found_row-c-requires c = (
+  omega arith,
+  c.loop-i.invariant.0.room,
+  group_here c.args.list.now _ _ c.next_group-group.ensures.0 c.next_group-group.ensures.1,
+)
 
 pub returns-then-c-before : goal.returns-then-c-before
 returns-then-c-before c =
@@ -41,35 +40,32 @@ pub loop-i-smaller-else-c-before : goal.loop-i-smaller-else-c-before
 loop-i-smaller-else-c-before c = omega arith
 
 pub loop-i-preserved-else-c-before : goal.loop-i-preserved-else-c-before
-loop-i-preserved-else-c-before c =
-    (
-      along_more _ _ _ _ _ _ _ _ _ c.loop-i.invariant.0 c.loop-i-test.true _ _ _ c.found_row-c.ensures
-          (λ want w. found_as _ _ want _ _ _ _ (sym c.is_found.ensures ∙ c.if-is_found.true) w) c.if-c-before.false,
-      group_later c.args.list.now _ _ c.next_group-group.ensures.1,
-    )
+loop-i-preserved-else-c-before c = (
+  along_more _ _ _ _ _ _ _ _ _ c.loop-i.invariant.0 c.loop-i-test.true _ _ _ c.found_row-c.ensures
+      (λ want w. found_as _ _ want _ _ _ _ (sym c.is_found.ensures ∙ c.if-is_found.true) w) c.if-c-before.false,
+  group_later c.args.list.now _ _ c.next_group-group.ensures.1,
+)
 
 pub loop-i-smaller-else-is_found : goal.loop-i-smaller-else-is_found
 loop-i-smaller-else-is_found c = omega arith
 
 pub loop-i-preserved-else-is_found : goal.loop-i-preserved-else-is_found
-loop-i-preserved-else-is_found c =
-    (
-      along_skip _ _ _ _ _ _ _ _ _ c.loop-i.invariant.0 c.loop-i-test.true
-          (λ want w. found_other _ _ want _ _ _ _ (sym c.is_found.ensures ∙ c.if-is_found.false) w),
-      group_later c.args.list.now _ _ c.loop-i.invariant.1,
-    )
+loop-i-preserved-else-is_found c = (
+  along_skip _ _ _ _ _ _ _ _ _ c.loop-i.invariant.0 c.loop-i-test.true
+      (λ want w. found_other _ _ want _ _ _ _ (sym c.is_found.ensures ∙ c.if-is_found.false) w),
+  group_later c.args.list.now _ _ c.loop-i.invariant.1,
+)
 
 pub loop-i-smaller : goal.loop-i-smaller
 loop-i-smaller c = omega arith
 
 pub loop-i-preserved : goal.loop-i-preserved
-loop-i-preserved c =
-    (
-      along_skip _ _ _ _ _ _ _ _ _ c.loop-i.invariant.0 c.loop-i-test.true
-          (λ want w. found_skip _ _ want _ _ _
-          (w ∙ may_not _ _ _ c.may_be.ensures.1 c.requires.from_le_to.2 (sym c.may_be.ensures.0 ∙ c.if-may_be.false))),
-      group_later c.args.list.now _ _ c.loop-i.invariant.1,
-    )
+loop-i-preserved c = (
+  along_skip _ _ _ _ _ _ _ _ _ c.loop-i.invariant.0 c.loop-i-test.true
+      (λ want w. found_skip _ _ want _ _ _
+      (w ∙ may_not _ _ _ c.may_be.ensures.1 c.requires.from_le_to.2 (sym c.may_be.ensures.0 ∙ c.if-may_be.false))),
+  group_later c.args.list.now _ _ c.loop-i.invariant.1,
+)
 
 pub returns : goal.returns
 returns c =

@@ -39,14 +39,13 @@ returns-then-p c =
     ∙ good_range _ _ (good (goal.at.returns-then-p c).Else-is_bad))
 
 pub put_infos-c-requires : goal.put_infos-c-requires
-put_infos-c-requires c =
-    (
-      omega (arith, c.if-p.false),
-      c.stretch-p.ensures.1.inside,
-      info_room _ _ _ _ _ _ _ (omega (arith, c.requires.1)) c.new.ensures.0 c.byte-c.ensures.0
-          c.byte-c.ensures.1 c.byte-c-2.ensures.0 c.byte-c-2.ensures.1,
-      uuid_short _ _ (search rules) c.uuid-size.ensures,
-    )
+put_infos-c-requires c = (
+  omega (arith, c.if-p.false),
+  c.stretch-p.ensures.1.inside,
+  info_room _ _ _ _ _ _ _ (omega (arith, c.requires.1)) c.new.ensures.0 c.byte-c.ensures.0
+      c.byte-c.ensures.1 c.byte-c-2.ensures.0 c.byte-c-2.ensures.1,
+  uuid_short _ _ (search rules) c.uuid-size.ensures,
+)
 
 pub returns : goal.returns
 returns c =

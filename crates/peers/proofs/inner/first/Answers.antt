@@ -30,12 +30,11 @@ pub loop-i-smaller : goal.loop-i-smaller
 loop-i-smaller c = omega arith
 
 pub loop-i-preserved : goal.loop-i-preserved
-loop-i-preserved c =
-    (
-      omega arith,
-      sym (row_miss _ c.args.row.now _ c.loop-i-test.true c.decode-s.ensures
-          c.is_wanted.ensures c.if-is_wanted.false) ∙ c.loop-i.invariant.1,
-    )
+loop-i-preserved c = (
+  omega arith,
+  sym (row_miss _ c.args.row.now _ c.loop-i-test.true c.decode-s.ensures
+      c.is_wanted.ensures c.if-is_wanted.false) ∙ c.loop-i.invariant.1,
+)
 
 pub returns : goal.returns
 returns c = sym (row_end _ c.args.row.now _ c.loop-i-test.false) ∙ c.loop-i.invariant.1

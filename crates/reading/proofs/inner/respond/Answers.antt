@@ -19,7 +19,8 @@ append_span-c-requires c =
     let w = one_byte _ _ _ _ _ c.new.ensures.0 (omega (arith, c.requires.0)) c.byte-c.ensures.0
     c.byte-c.ensures.1 in
     let n = ap (λ (x : WriteCursor). x.len) w.cursor in
-    record { n_in_bounds = omega (
+    record {
+      n_in_bounds = omega (
         arith,
         n,
         c.new.ensures.0,
@@ -27,7 +28,9 @@ append_span-c-requires c =
         c.least-n.ensures,
         c.if-len-offset.false,
         c.requires.0,
-      ); len_in_bounds = in_bytes _ _ _ _ c.in-Here.is c.requires.1 }
+      );
+      len_in_bounds = in_bytes _ _ _ _ c.in-Here.is c.requires.1;
+    }
 
 pub returns-in-Not : goal.returns-in-Not
 returns-in-Not c =

@@ -69,21 +69,24 @@ overflow_cast-size c =
     )
 
 pub put_list-c-requires : goal.put_list-c-requires
-put_list-c-requires c = record { from_le_to = (
-        omega (arith, early (goal.at.put_list-c-requires c).In-At),
-        c.stretch-p.ensures.1.inside,
-        ap (λ (x : ShortForm). x.value) c.short_of-short.ensures,
-      ); ready_to_read = (
-        c.requires.0,
-        header_fits _ _ _ _ _ _ _ _ (omega (arith, c.requires.1)) c.new.ensures.0 c.byte-c.ensures.0
-            c.byte-c.ensures.1 c.byte-c-in-Here.ensures.0 c.byte-c-in-Here.ensures.1,
-        omega (
-          arith,
-          cut_limit c.args.form (length c.args.out.now - 2) c.in-Here.s.len,
-          c.cut-size.ensures,
-        ),
-        omega (arith, c.requires.2),
-      ) }
+put_list-c-requires c = record {
+  from_le_to = (
+    omega (arith, early (goal.at.put_list-c-requires c).In-At),
+    c.stretch-p.ensures.1.inside,
+    ap (λ (x : ShortForm). x.value) c.short_of-short.ensures,
+  );
+  ready_to_read = (
+    c.requires.0,
+    header_fits _ _ _ _ _ _ _ _ (omega (arith, c.requires.1)) c.new.ensures.0 c.byte-c.ensures.0
+        c.byte-c.ensures.1 c.byte-c-in-Here.ensures.0 c.byte-c-in-Here.ensures.1,
+    omega (
+      arith,
+      cut_limit c.args.form (length c.args.out.now - 2) c.in-Here.s.len,
+      c.cut-size.ensures,
+    ),
+    omega (arith, c.requires.2),
+  );
+}
 
 pub returns-in-Not : goal.returns-in-Not
 returns-in-Not c =

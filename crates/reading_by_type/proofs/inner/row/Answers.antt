@@ -40,17 +40,21 @@ returns-then-cut-size c =
     (ap (contents_of _ _) c.locate_at.ensures ∙ at_got _ _ _ _)))
 
 pub put_value-requires : goal.put_value-requires
-put_value-requires c = record { i_in_bounds = (
-        c.requires.i_in_bounds.0,
-        (span_inside _ _ _ _ c.in-Here.is (rw c.locate_at.ensures
-            (at_inside _ _ c.requires.i_in_bounds.1.table _ c.requires.i_in_bounds.1.right _ c.requires.i_in_bounds.0 _))),
-        omega (
-          arith,
-          cut_le c.args.form c.available-room.result c.in-Here.s.len,
-          c.cut.ensures,
-          c.if-cut-size.false,
-        ),
-      ); form_in_bounds = omega (arith, c.if-room-size.false, c.available-room.ensures, c.extra.ensures.0, c.requires.len_in_bounds.0); end_value = c.requires.end_value }
+put_value-requires c = record {
+  i_in_bounds = (
+    c.requires.i_in_bounds.0,
+    (span_inside _ _ _ _ c.in-Here.is (rw c.locate_at.ensures
+        (at_inside _ _ c.requires.i_in_bounds.1.table _ c.requires.i_in_bounds.1.right _ c.requires.i_in_bounds.0 _))),
+    omega (
+      arith,
+      cut_le c.args.form c.available-room.result c.in-Here.s.len,
+      c.cut.ensures,
+      c.if-cut-size.false,
+    ),
+  );
+  form_in_bounds = omega (arith, c.if-room-size.false, c.available-room.ensures, c.extra.ensures.0, c.requires.len_in_bounds.0);
+  end_value = c.requires.end_value;
+}
 
 pub returns : goal.returns
 returns c =

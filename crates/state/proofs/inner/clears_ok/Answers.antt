@@ -55,13 +55,12 @@ pub loop-i-smaller : goal.loop-i-smaller
 loop-i-smaller c = omega arith
 
 pub loop-i-preserved : goal.loop-i-preserved
-loop-i-preserved c =
-    (
-      omega arith,
-      next_slot _ _ (row_of c.args.row.now) _ _ _ c.loop-i.invariant.1
-          (omega (arith, length_row c.args.row.now, c.requires.3)) (omega arith)
-          (tested (goal.at.loop-i-preserved c).After-clear_ok ∙ c.if-not-clear_ok.false),
-    )
+loop-i-preserved c = (
+  omega arith,
+  next_slot _ _ (row_of c.args.row.now) _ _ _ c.loop-i.invariant.1
+      (omega (arith, length_row c.args.row.now, c.requires.3)) (omega arith)
+      (tested (goal.at.loop-i-preserved c).After-clear_ok ∙ c.if-not-clear_ok.false),
+)
 
 pub returns : goal.returns
 returns c =

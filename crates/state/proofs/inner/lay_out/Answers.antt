@@ -48,8 +48,7 @@ loop-i-preserved c =
     (rw (← c.decode.ensures) f) _ (c.lay_entry.ensures.1 y ∙ rw c.decode.ensures)
 
 pub returns : goal.returns
-returns c =
-    (
-      all_fits c.args.list.now _ c.requires.0 _ _ c.loop-i.invariant c.loop-i-test.false,
-      λ t. all_laid c.args.list.now _ c.requires.0 _ _ c.loop-i.invariant c.loop-i-test.false,
-    )
+returns c = (
+  all_fits c.args.list.now _ c.requires.0 _ _ c.loop-i.invariant c.loop-i-test.false,
+  λ t. all_laid c.args.list.now _ c.requires.0 _ _ c.loop-i.invariant c.loop-i-test.false,
+)

@@ -79,13 +79,12 @@ returns-then-not-values_ok c =
     (sym c.values_ok.ensures ∙ c.if-not-values_ok.true)
 
 pub clears_ok-requires : goal.clears_ok-requires
-clears_ok-requires c =
-    (
-      c.requires.0,
-      omega (arith, c.values_base-base.ensures.0, c.values_end-end.ensures.0),
-      omega (arith, fits _ (is_table _ c.requires.1), fresh-long (goal.at.clears_ok-requires c).After-values_base-arg-1, c.values_end-end.ensures.0),
-      c.requires.2,
-    )
+clears_ok-requires c = (
+  c.requires.0,
+  omega (arith, c.values_base-base.ensures.0, c.values_end-end.ensures.0),
+  omega (arith, fits _ (is_table _ c.requires.1), fresh-long (goal.at.clears_ok-requires c).After-values_base-arg-1, c.values_end-end.ensures.0),
+  c.requires.2,
+)
 
 pub returns : goal.returns
 returns c =

@@ -16,12 +16,11 @@ returns-then-a c =
     p.1
 
 pub put_shared-requires : goal.put_shared-requires
-put_shared-requires c =
-    (
-      c.requires.0,
-      c.requires.1.right,
-      ap (λ (a : Attribute). a.client) (sym c.decode-a.ensures) ∙ c.if-a.false,
-    )
+put_shared-requires c = (
+  c.requires.0,
+  c.requires.1.right,
+  ap (λ (a : Attribute). a.client) (sym c.decode-a.ensures) ∙ c.if-a.false,
+)
 
 pub returns : goal.returns
 returns c =
