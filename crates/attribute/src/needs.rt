@@ -19,6 +19,7 @@ fn level(link: Link) -> u8
 }
 
 // Whether a link meets a need; `never` is the code of need 0.
+#[tactic(auto, unfolding(crate::specs::Needs::access_of))]
 pub fn access(link: Link, never: u8, need: u8) -> Access
     ensures { told_access result ≡ access_told link never need }
 {
