@@ -15,16 +15,16 @@ ok c = sym c.is_table.ensures ∙ c.if-not-is_table.false
 
 pub returns-then-raw-gt-INPUT_SIZE : goal.returns-then-raw-gt-INPUT_SIZE
 returns-then-raw-gt-INPUT_SIZE c =
-    printed_long _ _ _ _ c.bytes.ensures (omega (arith, c.if-raw-gt-INPUT_SIZE.true))
+    printed_long _ _ _ _ c.bytes.ensures (omega arith)
 
 pub returns-then-not-is_table : goal.returns-then-not-is_table
 returns-then-not-is_table c =
-    printed_refused _ _ _ _ (no_table (goal.at.returns-then-not-is_table c).Then-not-is_table) c.bytes-then-not-is_table.ensures (omega (arith, c.if-raw-gt-INPUT_SIZE.false))
+    printed_refused _ _ _ _ (no_table (goal.at.returns-then-not-is_table c).Then-not-is_table) c.bytes-then-not-is_table.ensures (omega arith)
 
 pub lines-requires : goal.lines-requires
 lines-requires c =
-    (ok (goal.at.lines-requires c).Else-not-is_table, omega (arith, c.if-raw-gt-INPUT_SIZE.false))
+    (ok (goal.at.lines-requires c).Else-not-is_table, omega arith)
 
 pub returns : goal.returns
 returns c =
-    printed_lines _ _ _ _ (ok (goal.at.returns c).Else-not-is_table) c.lines.ensures (omega (arith, c.if-raw-gt-INPUT_SIZE.false))
+    printed_lines _ _ _ _ (ok (goal.at.returns c).Else-not-is_table) c.lines.ensures (omega arith)
