@@ -6,37 +6,24 @@ pub mod request;
 
 ghost use Rattle.std.specs.Prelude.{◌≡◌, false};
 ghost use Rattle.peers.specs.Identity.{is_bad};
-ghost use Rattle.state.specs.State.{lent};
+ghost use Rattle.state.specs.Lent.{held};
 ghost use Rattle.state.specs.Valid.{valid};
 ghost use Rattle.admission.specs.Admission.{admission_by};
 
-use model::Answer;
+use model::CallError;
 use peers::Identity;
-use wire::sizes::{Record, SlotBytes, Table};
+use state::Lent;
 
-// Whether a call is let in, or what it is answered.
-#[derive(Clone, Copy)]
-pub enum Admission {
-    Yes,
-    No(Answer),
-}
-
-// For a call of the application.
-pub fn admit(
-    list: &[Record],
-    store: &[u8],
-    row: &[SlotBytes],
-    tables: &[Table],
-    who: Identity,
-) -> Admission
-    ensures { let s = lent list.now store.now row.now tables.now in
-        result ≡ admission_by (valid s) false (is_bad who) }
+// Whether a call of the application is let in.
+#[tactic(auto, unfolding(crate::specs::Admission::admission_by))]
+pub fn admit(hub: Lent, who: Identity) -> Result<(), CallError>
+    ensures { result ≡ admission_by (valid (held hub.entry)) false (is_bad who) }
 {
-    if !state::is_valid(list, store, row, tables) {
-        return Admission::No(Answer::BadState);
+    if !state::is_valid(hub) {
+        return Err(CallError::BadState);
     }
     if peers::who::is_bad(who) {
-        return Admission::No(Answer::BadPeer);
+        return Err(CallError::BadPeer);
     }
-    Admission::Yes
+    Ok(())
 }

@@ -1,4 +1,5 @@
 -- Valid in, valid out: setting a value and taking in a saved table keep a valid state valid. Assumes nothing.
+use Rattle.std.specs.Prelude.{Option, Some, None}
 use mathlib.Core.Path.{◌≡◌, refl}
 use mathlib.Core.Bool.{Bool, true, false, cond}
 use mathlib.Core.List.{List, []}
@@ -14,13 +15,12 @@ use Rattle.attribute.specs.Lookup.{place_of}
 use Rattle.peers.specs.Identity.{is_bad}
 use Rattle.peers.specs.Slots.{slot_of}
 use Rattle.peers.specs.declared.Identity.{Identity}
-use Rattle.peers.specs.declared.Seated.{Seated}
-use Rattle.peers.specs.declared.Seated.TheVariants.{At, Nothing}
 use Rattle.state.specs.State.{State, with_tables}
 use Rattle.state.specs.Valid.{valid}
 use Rattle.storing.proofs.Valid.{put_valid, kept_valid}
 use Rattle.application.specs.Calls.{store_left, restored_at, restored}
 use Rattle.application.proofs.Leaving.{set_leaves}
+use Rattle.peers.specs.declared.Seat.{Seat}
 
 -- `set`
 module _ (s : State) (who : Identity) (v : valid s ≡ true) (good : is_bad who ≡ false) (records : (i : ℕ) → i < length s.list → length (get_or s.list i []) ≡ record_bytes)
@@ -36,9 +36,9 @@ unfolding bytes_after
 values_kept saved t ok = call_kept t ok (set_values saved)
 
 module _ (s : State) (who : Identity) (v : valid s ≡ true) (good : is_bad who ≡ false) (sized : (i : ℕ) → i < slot_count → length (get_or s.tables i []) ≡ table_bytes) (saved : List ℕ) where
-  at_slot : (f : Seated) → slot_of s.row who ≡ f → valid (with_tables s (restored_at s.tables f saved)) ≡ true
-  at_slot Nothing e = v
-  at_slot (At k) e = kept_valid s v who good sized k e _ (values_kept saved (get_or s.tables k.0 []))
+  at_slot : (f : Option Seat) → slot_of s.row who ≡ f → valid (with_tables s (restored_at s.tables f saved)) ≡ true
+  at_slot None e = v
+  at_slot (Some k) e = kept_valid s v who good sized k e _ (values_kept saved (get_or s.tables k.0 []))
 
   pub restore_valid : valid (with_tables s (restored s.tables (slot_of s.row who) saved)) ≡ true
   unfolding restored

@@ -1,77 +1,52 @@
 // `slot` is the peer's: the first that matches, connected or not.
+//
+// By hand: a call that changes something is lent the ranges side by side, for the reason that `storing` gives.
 ghost use Rattle.std.specs.Prelude.{◌≡◌, true, [], ◌<◌, length, get_or};
 ghost use Rattle.wire.specs.Size.{table_bytes};
 ghost use Rattle.table_view.specs.Rules.{accepts};
 ghost use Rattle.attribute.specs.Record.{attribute_of};
 ghost use Rattle.attribute.specs.Lookup.{place_of};
-ghost use Rattle.attribute.specs.Needs.{told_access};
 ghost use Rattle.state.specs.State.{Becomes};
+ghost use Rattle.state.specs.Lent.{held};
 ghost use Rattle.model.specs.View.{table_at};
 ghost use Rattle.model.specs.Told.{told_answer, Answered};
 ghost use Rattle.storing.specs.Ready.{SlotReady, ReadyToStore};
-ghost use Rattle.application.specs.Calls.{answer_copied, is_wrong_length, fetch_told, store_told, store_left, is_subscribed, table_told, restore_told, restored};
+ghost use Rattle.application.specs.Calls.{bit_of, is_wrong_length, fetch_told, store_told, store_left, is_subscribed, table_told, restore_told, restored};
 
-use attribute::Access;
-use model::Answer;
-use peers::Seated;
-use reading::Copied;
-use table_view::Key;
-use wire::Found;
+use crate::Bell;
+use model::{Answer, CallError};
+use peers::Seat;
+use state::Lent;
+use table_view::{Key, try_from_raw};
+use values::Values;
 use wire::sizes::{Record, TABLE_SIZE, Table};
 
-fn copied(c: Copied) -> Answer
-    ensures { result ≡ answer_copied c }
-{
-    match c {
-        Copied::Value(n) => Answer::Value(n),
-        Copied::Code(code) => Answer::Code(code),
-    }
-}
-
-// What an access is as an answer.
-pub fn accessed(a: Access) -> Answer
-    ensures { told_answer [] result ≡ told_access a }
-{
-    match a {
-        Access::Granted => Answer::Done,
-        Access::Denied(code) => Answer::Code(code),
-    }
-}
-
 // Copies the value under a handle out, as much as the buffer can take.
-pub fn get(
-    list: &[Record],
-    store: &[u8],
-    tables: &[Table],
-    slot: Seated,
-    handle: u16,
-    out: &mut [u8],
-) -> Answer
-    requires { ReadyToStore list.now (length store.now) tables.now slot }
-    ensures { Answered out.old out.new result (fetch_told list.now store.now (table_at tables.now slot) (place_of list.now handle) (length out.old)) }
+pub fn get(hub: Lent, slot: Option<Seat>, handle: u16, out: &mut [u8]) -> Result<Answer, CallError>
+    requires { ReadyToStore hub.list.now (length hub.store.now) hub.tables.now slot }
+    ensures { let s = held hub.entry in
+        Answered out.old out.new result (fetch_told s.list s.store (table_at s.tables slot) (place_of s.list handle) (length out.old)) }
 {
-    let Found::At(i) = attribute_walk::walk::find_listed(list, handle) else {
-        return Answer::NoHandle;
+    let Lent { list, store, .. } = hub;
+    let Some(i) = attribute_walk::walk::find_listed(list, handle) else {
+        return Err(CallError::NoHandle);
     };
-    match slot {
-        Seated::At(k) => {
-            let at = k.0;
-            copied(reading::inner::copy_value(list, store, &tables[at], i, out))
-        }
-        Seated::Nothing => copied(reading::inner::copy_value(list, store, &[0, 0, 0, 0], i, out)),
-    }
+    let table: &[u8] = match slot {
+        Some(k) => &hub.tables[k.0],
+        None => &[0, 0, 0, 0],
+    };
+    let n = reading::inner::copy_value(Values { list, store, table }, i, out)?;
+    Ok(Answer::Value(n))
 }
 
 // Whether so many bytes are another length than a fixed value has.
+#[tactic(auto, unfolding(crate::specs::Calls::is_wrong_length))]
 fn is_wrong_length(list: &[Record], i: usize, n: usize) -> bool
     requires { i < length list.now }
     ensures { result ≡ is_wrong_length (attribute_of (get_or list.now i [])) n }
 {
     let a = attribute::inner::decode(&list[i]);
-    if a.variable {
-        return false;
-    }
-    n != a.cap as usize
+    !a.variable && n != a.cap as usize
 }
 
 // Sets the value under a handle.
@@ -79,21 +54,32 @@ pub fn set(
     list: &mut [Record],
     store: &mut [u8],
     tables: &mut [Table],
-    slot: Seated,
+    slot: Option<Seat>,
     handle: u16,
     d: &[u8],
-) -> Answer
+) -> Result<Answer, CallError>
     requires { ReadyToStore list.old (length store.old) tables.old slot }
     ensures { (told_answer [] result ≡ store_told list.old store.old (table_at tables.old slot) (place_of list.old handle) (length d.now))
         × Becomes (λ s. store_left s slot (place_of list.old handle) d.now) list.old store.old tables.old list.new store.new tables.new }
 {
-    let Found::At(i) = attribute_walk::walk::find_listed(list, handle) else {
-        return Answer::NoHandle;
+    let Some(i) = attribute_walk::walk::find_listed(list, handle) else {
+        return Err(CallError::NoHandle);
     };
     if is_wrong_length(list, i, d.len()) {
-        return Answer::WrongLength;
+        return Err(CallError::WrongLength);
     }
-    accessed(storing::inner::put_at(list, store, tables, slot, i, 0, d))
+    storing::inner::put_at(list, store, tables, slot, i, 0, d)?;
+    Ok(Answer::Done)
+}
+
+// The bit that a subscription sets: bit 0 or bit 1.
+fn bit(bell: Bell) -> u8
+    ensures { (result ≡ bit_of bell) × (0 < result) }
+{
+    match bell {
+        Bell::Notify => 1,
+        Bell::Indicate => 2,
+    }
 }
 
 // Whether a table's value under a handle has two bytes, and the bit in the first.
@@ -101,53 +87,53 @@ fn has_bit(table: &[u8], handle: u16, bit: u8) -> bool
     requires { (accepts table.now ≡ true) × (0 < bit) }
     ensures { result ≡ is_subscribed table.now handle bit }
 {
-    let table_view::Indexed::At(p) = table_view::inner::find(table, Key(handle)) else {
+    let Some(p) = table_view::inner::find(table, Key(handle)) else {
         return false;
     };
     let v = table_view::inner::value(table, p);
-    if v.len() != 2 {
-        return false;
-    }
-    v[0] / bit % 2 == 1
+    v.len() == 2 && v[0] / bit % 2 == 1
 }
 
-// Whether a peer has subscribed to a value: bit 1 to notifications, bit 2 to indications.
-pub fn is_subscribed(tables: &[Table], slot: Seated, handle: u16, bit: u8) -> bool
-    requires { SlotReady tables.now slot × (0 < bit) }
-    ensures { result ≡ is_subscribed (table_at tables.now slot) handle bit }
+// Whether a peer has subscribed to a value.
+pub fn is_subscribed(tables: &[Table], slot: Option<Seat>, handle: u16, bell: Bell) -> bool
+    requires { SlotReady tables.now slot }
+    ensures { result ≡ is_subscribed (table_at tables.now slot) handle (bit_of bell) }
 {
-    let Seated::At(k) = slot else {
+    let Some(k) = slot else {
         return false;
     };
-    let at = k.0;
-    has_bit(&tables[at], handle, bit)
+    has_bit(&tables[k.0], handle, bit(bell))
 }
 
 // Copies the peer's table out.
-pub fn get_client_att_table(tables: &[Table], slot: Seated, out: &mut [u8]) -> Answer
+pub fn get_client_att_table(
+    tables: &[Table],
+    slot: Option<Seat>,
+    out: &mut [u8],
+) -> Result<Answer, CallError>
     requires { SlotReady tables.now slot × (length out.old ≡ table_bytes) }
     ensures { Answered out.old out.new result (table_told tables.now slot) }
 {
-    let Seated::At(k) = slot else {
-        return Answer::Nothing;
+    let Some(k) = slot else {
+        return Ok(Answer::Nothing);
     };
-    let at = k.0;
-    wire::inner::copy(out, 0, &tables[at]);
-    Answer::Value(TABLE_SIZE)
+    wire::inner::copy(out, 0, &tables[k.0]);
+    Ok(Answer::Value(TABLE_SIZE))
 }
 
 // Puts the values of a saved table into the peer's; without a slot nothing changes.
-pub fn set_client_att_table(tables: &mut [Table], slot: Seated, saved: &[u8]) -> Answer
+pub fn set_client_att_table(
+    tables: &mut [Table],
+    slot: Option<Seat>,
+    saved: &[u8],
+) -> Result<Answer, CallError>
     requires { SlotReady tables.old slot }
     ensures { (told_answer [] result ≡ restore_told saved.now) × (tables.new ≡ restored tables.old slot saved.now) }
 {
-    if !table_view::inner::is_table(saved) {
-        return Answer::BadTable;
-    }
-    let Seated::At(k) = slot else {
-        return Answer::Done;
+    try_from_raw(saved)?;
+    let Some(k) = slot else {
+        return Ok(Answer::Done);
     };
-    let at = k.0;
-    client_att_table::inner::set_values(&mut tables[at], saved);
-    Answer::Done
+    client_att_table::inner::set_values(&mut tables[k.0], saved);
+    Ok(Answer::Done)
 }

@@ -3,3 +3,10 @@
 #![tactic(auto)]
 
 pub mod inner;
+
+// What a peer subscribes to: notifications, or indications.
+#[derive(Clone, Copy, Debug, PartialEq, Eq)]
+pub enum Bell {
+    Notify,
+    Indicate,
+}

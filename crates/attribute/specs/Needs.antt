@@ -1,5 +1,8 @@
 -- Needs and links (document 01, "Attributes"). Assumes nothing.
-use Rattle.std.specs.Prelude.{ℕ, cond, List, [], get_or, eqb, leb}
+use Rattle.std.specs.Prelude.{ℕ, cond, List, [], get_or, eqb, leb, Option, Some, None, Result, Ok, Err}
+use Rattle.wire.specs.Att.{code_of}
+use Rattle.wire.specs.declared.att.AttError.{AttError}
+use Rattle.wire.specs.declared.att.AttError.TheVariants.{InvalidHandle, ReadNotPermitted, WriteNotPermitted, InsufficientAuthentication, InsufficientEncryption}
 use Rattle.table_view.specs.Told.{Told, done, att}
 use Rattle.attribute.specs.Record.{attribute_of}
 use Rattle.attribute.specs.Lookup.{place_of}
@@ -8,15 +11,15 @@ use Rattle.attribute.specs.declared.Link.{Link}
 use Rattle.attribute.specs.declared.Link.TheVariants.{Plain, Encrypted, Authenticated, Gone}
 use Rattle.attribute.specs.declared.Wish.{Wish}
 use Rattle.attribute.specs.declared.Wish.TheVariants.{Read, Write}
-use Rattle.attribute.specs.declared.Access.{Access}
-use Rattle.attribute.specs.declared.Access.TheVariants.{Granted, Denied}
-use Rattle.wire.specs.declared.Found.{Found}
-use Rattle.wire.specs.declared.Found.TheVariants.{At, Nothing}
 
--- what an access tells: done where the link meets the need, else the ATT code that says why not
+-- what stands behind a test of a need, or a write: that it may be done, or the ATT error that says why not
+abbrev pub Access : Type 0
+Access = Result (Unit {0}) AttError
+
+-- what it tells
 abbrev pub told_access : Access → Told
-told_access Granted = done
-told_access (Denied c) = att c
+told_access (Ok x) = done
+told_access (Err e) = att (code_of e)
 
 -- the highest need that a link meets: 1 any link, 2 encrypted, 3 authenticated, which is encrypted too; a link that is
 -- gone meets none
@@ -26,19 +29,19 @@ level_of Encrypted = 2
 level_of Authenticated = 3
 level_of Gone = 0
 
--- gone is told before any need; need 0 is never met, and has the code `never`; then 0x0F for need 2 and 0x05 for need 3
-unfoldable pub access_of : Link → ℕ → ℕ → Access
+-- gone is told before any need; need 0 is never met, and has the error `never`; then 0x0F for need 2 and 0x05 for need 3
+unfoldable pub access_of : Link → AttError → ℕ → Access
 access_of link never need =
-    cond (eqb (level_of link) 0) (Denied 0x01)
-    (cond (eqb need 0) (Denied never)
-    (cond (leb need (level_of link)) Granted (cond (eqb need 2) (Denied 0x0F) (Denied 0x05))))
+    cond (eqb (level_of link) 0) (Err InvalidHandle)
+    (cond (eqb need 0) (Err never)
+    (cond (leb need (level_of link)) (Ok tt) (cond (eqb need 2) (Err InsufficientEncryption) (Err InsufficientAuthentication))))
 
 -- reading and writing
 abbrev pub may_read : Attribute → Link → Access
-may_read a link = access_of link 0x02 a.reads
+may_read a link = access_of link ReadNotPermitted a.reads
 
 abbrev pub may_write : Attribute → Link → Access
-may_write a link = access_of link 0x03 a.writes
+may_write a link = access_of link WriteNotPermitted a.writes
 
 -- what a link wishes to do
 abbrev pub may_do : Wish → Attribute → Link → Access
@@ -46,22 +49,16 @@ may_do Read a link = may_read a link
 may_do Write a link = may_write a link
 
 -- by handle: an absent one is 0x01
-abbrev pub access_at : Wish → List (List ℕ) → Link → Found → Access
-access_at wish list link Nothing = Denied 0x01
-access_at wish list link (At i) = may_do wish (attribute_of (get_or list i [])) link
+abbrev pub access_at : Wish → List (List ℕ) → Link → Option ℕ → Access
+access_at wish list link None = Err InvalidHandle
+access_at wish list link (Some i) = may_do wish (attribute_of (get_or list i [])) link
 
 abbrev pub can_do : Wish → List (List ℕ) → Link → ℕ → Access
 can_do wish list link h = access_at wish list link (place_of list h)
 
 -- what a call that asks for each of these tells
-abbrev pub access_told : Link → ℕ → ℕ → Told
+abbrev pub access_told : Link → AttError → ℕ → Told
 access_told link never need = told_access (access_of link never need)
-
-abbrev pub may_read_told : Attribute → Link → Told
-may_read_told a link = told_access (may_read a link)
-
-abbrev pub may_write_told : Attribute → Link → Told
-may_write_told a link = told_access (may_write a link)
 
 abbrev pub can_do_told : Wish → List (List ℕ) → Link → ℕ → Told
 can_do_told wish list link h = told_access (can_do wish list link h)

@@ -5,10 +5,10 @@ ghost use Rattle.attribute.specs.Record.{attribute_of, uuid_of, with_length};
 ghost use Rattle.attribute.specs.Lookup.{handle_of};
 
 use crate::Attribute;
-use wire::least;
 use wire::sizes::Record;
 
 // The record's fields.
+#[tactic(auto, unfolding(crate::specs::Record::attribute_of))]
 pub fn decode(r: &Record) -> Attribute
     ensures { result ≡ attribute_of r.now }
 {
@@ -30,7 +30,7 @@ pub fn uuid(r: &[u8]) -> &[u8]
     requires { length r.now ≡ record_bytes }
     ensures { result.now ≡ uuid_of r.now }
 {
-    let to = least(12 + r[11] as usize, 32);
+    let to = (12 + r[11] as usize).min(32);
     &r[12..to]
 }
 
@@ -43,6 +43,7 @@ pub fn handle_at(list: &[Record], i: usize) -> u16
 }
 
 // Sets the present length of the entry at place i. Every other byte of the list stays.
+#[tactic(auto, unfolding(crate::specs::Record::with_length))]
 pub fn set_length(list: &mut [Record], i: usize, n: u16)
     requires { i < length list.old }
     ensures { list.new ≡ set list.old i (with_length (get_or list.old i []) n) }

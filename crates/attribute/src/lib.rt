@@ -27,7 +27,7 @@ pub struct Attribute {
 }
 
 // How far a link is trusted. An authenticated one is encrypted too; one that is gone is told so before any need.
-#[derive(Clone, Copy)]
+#[derive(Clone, Copy, Debug, PartialEq, Eq)]
 pub enum Link {
     Plain,
     Encrypted,
@@ -36,15 +36,8 @@ pub enum Link {
 }
 
 // What a link wants to do with a value.
-#[derive(Clone, Copy)]
+#[derive(Clone, Copy, Debug, PartialEq, Eq)]
 pub enum Wish {
     Read,
     Write,
-}
-
-// Whether a link meets a need, or the ATT code that says why not.
-#[derive(Clone, Copy)]
-pub enum Access {
-    Granted,
-    Denied(u8),
 }

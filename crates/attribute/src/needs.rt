@@ -1,9 +1,9 @@
 // What a link may do with a value.
 ghost use Rattle.std.specs.Prelude.{◌≡◌};
-ghost use Rattle.attribute.specs.Needs.{told_access, level_of, access_told, may_read_told, may_write_told, may_do, can_do_told};
+ghost use Rattle.attribute.specs.Needs.{told_access, level_of, access_told, may_do, can_do_told};
 
-use crate::{Access, Attribute, Link, Wish, inner, lookup};
-use wire::Found;
+use crate::{Attribute, Link, Wish, inner, lookup};
+use wire::att::AttError;
 use wire::sizes::Record;
 
 // The highest need that a link meets.
@@ -18,56 +18,41 @@ fn level(link: Link) -> u8
     }
 }
 
-// Whether a link meets a need; `never` is the code of need 0.
+// Whether a link meets a need; `never` is the error of need 0.
 #[tactic(auto, unfolding(crate::specs::Needs::access_of))]
-pub fn access(link: Link, never: u8, need: u8) -> Access
+pub fn access(link: Link, never: AttError, need: u8) -> Result<(), AttError>
     ensures { told_access result ≡ access_told link never need }
 {
     let most = level(link);
     if most == 0 {
-        return Access::Denied(0x01);
+        return Err(AttError::InvalidHandle);
     }
     if need == 0 {
-        return Access::Denied(never);
+        return Err(never);
     }
     if need <= most {
-        return Access::Granted;
+        return Ok(());
     }
     if need == 2 {
-        return Access::Denied(0x0F);
+        return Err(AttError::InsufficientEncryption);
     }
-    Access::Denied(0x05)
+    Err(AttError::InsufficientAuthentication)
 }
 
-// Whether a link may read an entry, and write it.
-pub fn may_read(a: Attribute, link: Link) -> Access
-    ensures { told_access result ≡ may_read_told a link }
-{
-    access(link, 0x02, a.reads)
-}
-
-pub fn may_write(a: Attribute, link: Link) -> Access
-    ensures { told_access result ≡ may_write_told a link }
-{
-    access(link, 0x03, a.writes)
-}
-
-// Whether it may do with it what it wishes.
-fn may(a: Attribute, link: Link, wish: Wish) -> Access
+// Whether a link may do with an entry what it wishes.
+pub fn may(a: Attribute, link: Link, wish: Wish) -> Result<(), AttError>
     ensures { result ≡ may_do wish a link }
 {
     match wish {
-        Wish::Read => may_read(a, link),
-        Wish::Write => may_write(a, link),
+        Wish::Read => access(link, AttError::ReadNotPermitted, a.reads),
+        Wish::Write => access(link, AttError::WriteNotPermitted, a.writes),
     }
 }
 
 // The same by handle: 0x01 for one that is not listed.
-pub fn can(list: &[Record], link: Link, handle: u16, wish: Wish) -> Access
+pub fn can(list: &[Record], link: Link, handle: u16, wish: Wish) -> Result<(), AttError>
     ensures { told_access result ≡ can_do_told wish list.now link handle }
 {
-    let Found::At(i) = lookup::find_handle(list, handle) else {
-        return Access::Denied(0x01);
-    };
+    let i = lookup::find_handle(list, handle).ok_or(AttError::InvalidHandle)?;
     may(inner::decode(&list[i]), link, wish)
 }

@@ -1,4 +1,5 @@
 -- What a call that is let in may lean on. Assumes nothing.
+use Rattle.std.specs.Prelude.{None}
 use mathlib.Core.Path.{◌≡◌}
 use mathlib.Core.Bool.{Bool, true, false, cond}
 use Prim.Native.Nat.{ℕ, ◌-◌, ◌≤◌}
@@ -9,7 +10,6 @@ use Rattle.wire.proofs.Tests.{both_l, both_r}
 use Rattle.peers.specs.Slots.{slot_of}
 use Rattle.peers.specs.declared.Identity.{Identity}
 use Rattle.peers.proofs.Laws.{slot_inside}
-use Rattle.peers.specs.declared.Seated.TheVariants.{Nothing}
 use Rattle.state.specs.State.{State}
 use Rattle.state.specs.Valid.{valid, valid_with, record_ok}
 use Rattle.state.specs.declared.Prepared.{Prepared}
@@ -38,7 +38,7 @@ module _ (s : State) (who : Identity) (h : valid s ≡ true) where
   unfolding given_slot
   ready_given rq = by (needs_slot rq)
     where
-      by : (t : Bool) → ReadyToStore s.list (length s.store) s.tables (cond t (slot_of s.row who) Nothing)
+      by : (t : Bool) → ReadyToStore s.list (length s.store) s.tables (cond t (slot_of s.row who) None)
       by true = ready
       by false =
           record {

@@ -1,5 +1,6 @@
 -- Every response, value and exported table that is told has at most as many bytes as the buffer that was lent. Assumes
 -- nothing.
+use Rattle.std.specs.Prelude.{Option, Some, None, Ok}
 use mathlib.Core.Path.{◌≡◌, refl, sym, subst}
 use mathlib.Core.Bool.{Bool, true, false}
 use mathlib.Core.List.{List, []}
@@ -7,16 +8,12 @@ use Prim.Native.Nat.{ℕ, ◌+◌, ◌≤◌, ◌<◌}
 use native.Mathlib.Omega.{arith}
 use lib.ListN.{length, get_or, length-take}
 use Rattle.wire.specs.Size.{slot_count, table_bytes}
-use Rattle.wire.specs.declared.Found.{Found}
-use Rattle.wire.specs.declared.Found.TheVariants.{At, Nothing}
 use Rattle.table_view.specs.Told.{Told}
 use Rattle.attribute.specs.Record.{attribute_of}
 use Rattle.attribute.specs.Lookup.{place_of}
 use Rattle.peers.specs.Identity.{is_bad}
 use Rattle.peers.specs.Slots.{slot_of}
 use Rattle.peers.specs.declared.Identity.{Identity}
-use Rattle.peers.specs.declared.Seated.{Seated}
-use Rattle.peers.specs.declared.Seated.TheVariants as seated
 use Rattle.peers.proofs.Laws.{slot_inside}
 use Rattle.state.specs.State.{State, Waiting}
 use Rattle.state.specs.Valid.{valid, valid_with}
@@ -24,7 +21,6 @@ use Rattle.state.proofs.Keeping.{eight_slots}
 use Rattle.model.specs.Value.{Contents, Bytes, Code, read_of}
 use Rattle.model.specs.View.{own_table}
 use Rattle.model.specs.Told.{front, Fits, Answered}
-use Rattle.model.specs.declared.Answer.TheVariants.{Value}
 use Rattle.model.specs.declared.Request.{Request}
 use Rattle.model.specs.declared.Request.TheVariants as request
 use Rattle.model.specs.declared.Change.TheVariants.{PrepareWrite}
@@ -38,6 +34,8 @@ use Rattle.attribute_server.specs.Request.{Query, seen_of, process_told}
 use Rattle.attribute_server.specs.Value.{get_told}
 use Rattle.attribute_server.specs.Table.{fetched_told}
 use Rattle.attribute_server.proofs.Admitting.{request_fits}
+use Rattle.model.specs.declared.Answer.TheVariants.{Value}
+use Rattle.peers.specs.declared.Seat.{Seat}
 
 -- a refusal tells no bytes
 let_in_fits : (v b p : Bool) (t : Told) (n : ℕ) → (Admitted v b p → Fits t n) → Fits (told_if (admission_by v b p) t) n
@@ -67,20 +65,20 @@ module _ (s : State) (who : Identity) where
   pub get_fits : (h room : ℕ) → Fits (get_told s who h room) room
   get_fits h room = let_in_fits (valid s) false (is_bad who) _ room (λ a. by (place_of s.list h))
     where
-      by : (f : Found) → Fits (fetch_told s.list s.store (own_table s.row s.tables who) f room) room
-      by (At i) = got_fits room (read_of s.store (own_table s.row s.tables who) (attribute_of (get_or s.list i [])))
-      by Nothing = tt
+      by : (f : Option ℕ) → Fits (fetch_told s.list s.store (own_table s.row s.tables who) f room) room
+      by (Some i) = got_fits room (read_of s.store (own_table s.row s.tables who) (attribute_of (get_or s.list i [])))
+      by None = tt
 
   -- `get_client_att_table`: the table, of tables that have 640 bytes, as the lent type says
   pub fetched_fits : ((i : ℕ) → i < slot_count → length (get_or s.tables i []) ≡ table_bytes) → Fits (fetched_told s who) table_bytes
   fetched_fits sized = let_in_fits (valid s) false (is_bad who) _ table_bytes (λ a. by a.right (slot_of s.row who) refl)
     where
-      by : valid s ≡ true → (f : Seated) → slot_of s.row who ≡ f → Fits (table_told s.tables f) table_bytes
-      by v (seated.At k) e = omega (arith, sized k.0 (omega (arith, slot_inside s.row who k e, eight_slots s v)))
-      by v seated.Nothing e = tt
+      by : valid s ≡ true → (f : Option Seat) → slot_of s.row who ≡ f → Fits (table_told s.tables f) table_bytes
+      by v (Some k) e = omega (arith, sized k.0 (omega (arith, slot_inside s.row who k e, eight_slots s v)))
+      by v None e = tt
 
 -- a count past the buffer meets no promise
-pub count_fits : (old new : List ℕ) (n : ℕ) (t : Told) → Answered old new (Value n) t → n ≤ length old
+pub count_fits : (old new : List ℕ) (n : ℕ) (t : Told) → Answered old new (Ok (Value n)) t → n ≤ length old
 count_fits old new n t a =
     let k : length (front n new) ≤ length old = subst (λ (x : Told). Fits x (length old)) (sym a.told) a.fits in
     omega (arith, front_length n new, k)

@@ -1,62 +1,83 @@
 -- Connecting and leaving: what the walks found is the move of the definitions, and a row with the move's slot put is
 -- the state after the call. Assumes nothing.
-use mathlib.Core.Path.{◌≡◌, sym, ap, ◌∙◌}
+use Rattle.std.specs.Prelude.{Option, Some, None, Ok, Err}
+use mathlib.Core.Path.{◌≡◌, sym, ap, subst, ◌∙◌}
 use mathlib.Core.Bool.{Bool, true}
 use mathlib.Core.List.{List}
 use Prim.Native.Nat.{ℕ, ◌<◌}
-use native.Mathlib.Nat.{le_of_eq}
 use native.Mathlib.Omega.{arith}
 use lib.ListN.{length}
+use Rattle.table_view.specs.Told.{done, refused}
+use Rattle.model.specs.declared.CallError.{CallError}
 use Rattle.peers.specs.Bytes.{row_of}
 use Rattle.peers.specs.Slots.{walk, slot_of, Inside, joined, connecting, parted, leaving, row_moved}
 use Rattle.peers.specs.declared.Identity.{Identity}
 use Rattle.peers.specs.declared.Slot.{Slot}
-use Rattle.peers.specs.declared.Seated.{Seated}
-use Rattle.peers.specs.declared.Seated.TheVariants.{At, Nothing}
 use Rattle.peers.specs.declared.Want.TheVariants.{Usable, Free}
 use Rattle.peers.specs.declared.Move.{Move}
 use Rattle.peers.proofs.Laws.{slot_inside}
-use Rattle.peers.proofs.Moves.{join_clears, leave_clears}
-use Rattle.peers.proofs.Changes.{row_stays}
+use Rattle.peers.proofs.Moves.{InRow, join_in_row, leave_in_row}
 use Rattle.peers.proofs.Rows.{length_row}
 use Rattle.state.specs.State.{State, state, after_move}
-use Rattle.admission.specs.Admission.{admission, left_if}
-use Rattle.attribute_server.specs.Connection.{no_move, move_left}
-use Rattle.admission.specs.declared.Admission.{Admission}
-use Rattle.admission.specs.declared.Admission.TheVariants.{Yes, No}
+use Rattle.admission.specs.Admission.{admission}
+use Rattle.admission.proofs.Admitting.{told_yes, left_no, left_yes}
+use Rattle.attribute_server.specs.Connection.{if_moved, connect_told, move_left}
+use Rattle.peers.specs.declared.Seat.{Seat}
 
 -- what the walks found
 module _ (row : List Slot) (who : Identity) where
-  pub join_is : (usable free : Seated) (n : ℕ) → usable ≡ walk Usable row who → free ≡ walk Free row who → n ≡ length row → joined n who usable free ≡ connecting row who
+  pub join_is : (usable free : Option Seat)
+      → usable ≡ walk Usable row who → free ≡ walk Free row who → joined who usable free ≡ connecting row who
   unfolding connecting
-  join_is usable free n u f e = rw (u, f, e)
+  join_is usable free u f = rw (u, f)
 
-  pub part_is : (own : Seated) (bonded : Bool) → own ≡ slot_of row who → parted row bonded own ≡ leaving row who bonded
+  pub part_is : (own : Option Seat) (bonded : Bool) → own ≡ slot_of row who → parted row bonded own ≡ leaving row who bonded
   unfolding leaving
   part_is own bonded e = rw e
 
-  found : (f : Seated) → slot_of row who ≡ f → Inside f (length row)
-  found (At k) e = slot_inside row who k e
-  found Nothing e = tt
+  found : (f : Option Seat) → slot_of row who ≡ f → Inside f (length row)
+  found (Some k) e = slot_inside row who k e
+  found None e = tt
 
-  pub found_inside : (own : Seated) → own ≡ slot_of row who → Inside own (length row)
+  pub found_inside : (own : Option Seat) → own ≡ slot_of row who → Inside own (length row)
   found_inside own e = found own (sym e)
 
--- what a move may clear, in a row lent in bytes
-module _ (es : List (List ℕ)) (who : Identity) (m : Move) where
-  pub joins_inside : m ≡ connecting (row_of es) who → m.clears ≡ true → m.place < length es
-  joins_inside e h = let j = join_clears (row_of es) who (rw e at h) in rw e (omega (arith, j, length_row es))
+-- a move is of a slot of the row, also where the row is lent in bytes
+module _ (es : List (List ℕ)) (who : Identity) (m : Option Move) where
+  inside : (k : Move) → InRow (row_of es) m → m ≡ Some k → k.clears ≡ true → k.seat.0 < length es
+  inside k w f h =
+      let l : k.seat.0 < length (row_of es) = subst (InRow (row_of es)) f w in
+      omega (arith, l, length_row es)
 
-  pub leaves_inside : (bonded : Bool) → m ≡ leaving (row_of es) who bonded → m.clears ≡ true → m.place < length es
-  leaves_inside bonded e h = let j = leave_clears (row_of es) who bonded (rw e at h) in rw e (omega (arith, j, length_row es))
+  pub joins_inside : m ≡ connecting (row_of es) who → (k : Move) → m ≡ Some k → k.clears ≡ true → k.seat.0 < length es
+  joins_inside e k = inside k (rw e (join_in_row (row_of es) who))
 
--- the state with the slot of the move that is handed back: the move's own, or none
-module _ (s : State) (m o : Move) (n : ℕ) (len : n ≡ length s.row) (row : List Slot) (ts : List (List ℕ)) (put : row ≡ row_moved s.row o) where
-  put_by : (d : Admission) → o ≡ left_if d (no_move n m) m → ts ≡ (left_if d s (after_move s m)).tables → state s.list s.store row ts ≡ left_if d s (after_move s m)
-  put_by Yes e t = λ i. state s.list s.store ((put ∙ ap (row_moved s.row) e) i) (t i)
-  put_by (No a) e t =
-      let same = put ∙ ap (row_moved s.row) e ∙ row_stays s.row (no_move n m) (le_of_eq (sym len)) in
-      λ i. state s.list s.store (same i) (t i)
+  pub leaves_inside : (bonded : Bool) → m ≡ leaving (row_of es) who bonded
+      → (k : Move) → m ≡ Some k → k.clears ≡ true → k.seat.0 < length es
+  leaves_inside bonded e k = inside k (rw e (leave_in_row (row_of es) who bonded))
 
-  pub put_left : (who : Identity) → o ≡ left_if (admission s who) (no_move n m) m → ts ≡ (move_left s who m).tables → state s.list s.store row ts ≡ move_left s who m
-  put_left who e t = put_by (admission s who) e t
+-- what a peer that is let in is told: by the move x that the walks found
+pub told_moved : (s : State) (who : Identity) (m x : Option Move) → Ok tt ≡ admission s who → m ≡ connecting s.row who → m ≡ x
+    → if_moved x done (refused 7) ≡ connect_told s who
+told_moved s who m x d e f = ap (λ (m : Option Move). if_moved m done (refused 7)) (sym f ∙ e) ∙ told_yes _ _ (sym d)
+
+-- the state after a move, by what is done to the row and to the tables
+module _ (s : State) (who : Identity) (m : Option Move) (row : List Slot) (ts : List (List ℕ)) where
+  abbrev Left : Type 0
+  Left = state s.list s.store row ts ≡ move_left s who m
+
+  module _ (t : ts ≡ (move_left s who m).tables) where
+    -- where the row is what the state says, the lent bytes are the state
+    put_by : (left : State) → left ≡ move_left s who m → state s.list s.store row left.tables ≡ left → Left
+    put_by left l e = ap (state s.list s.store row) (t ∙ ap (λ (z : State). z.tables) (sym l)) ∙ e ∙ l
+
+    with_row : (left : State) → row ≡ left.row → state s.list s.store row left.tables ≡ state s.list s.store left.row left.tables
+    with_row left put = ap (λ (row : List Slot). state s.list s.store row left.tables) put
+
+    -- of a peer that is let in, the move's slot is put
+    pub put_left : Ok tt ≡ admission s who → row ≡ row_moved s.row m → Left
+    put_left d put = put_by (after_move s m) (left_yes _ _ _ (sym d)) (with_row (after_move s m) put)
+
+    -- of another the row stays
+    pub stay_left : (e : CallError) → Err e ≡ admission s who → row ≡ s.row → Left
+    stay_left e d same = put_by s (left_no _ _ _ _ (sym d)) (with_row s same)

@@ -1,5 +1,6 @@
 -- Valid in, valid out: every call that changes something keeps a valid state valid, whether it is let in or refused.
 -- Assumes nothing.
+use Rattle.std.specs.Prelude.{Ok, Err}
 use mathlib.Core.Path.{◌≡◌, refl}
 use mathlib.Core.Bool.{Bool, true, false, cond}
 use mathlib.Core.List.{List, []}
@@ -12,8 +13,6 @@ use Rattle.wire.specs.Test.{both}
 use Rattle.wire.proofs.Tests.{both_true}
 use Rattle.attribute.specs.Lookup.{place_of}
 use Rattle.attribute.specs.declared.Link.{Link}
-use Rattle.attribute.specs.declared.Access.{Access}
-use Rattle.attribute.specs.declared.Access.TheVariants.{Granted, Denied}
 use Rattle.peers.specs.Identity.{is_bad}
 use Rattle.peers.specs.Slots.{slot_of, connecting, leaving}
 use Rattle.peers.specs.declared.Identity.{Identity}
@@ -40,6 +39,8 @@ use Rattle.attribute_server.specs.Value.{set_left}
 use Rattle.attribute_server.specs.Table.{restored_left}
 use Rattle.admission.proofs.Admitting.{Admitted}
 use Rattle.attribute_server.proofs.Admitting.{with_record, without_record}
+use Rattle.attribute.specs.Needs.{Access}
+use Rattle.wire.specs.declared.att.AttError.TheVariants.{InvalidHandle}
 
 -- what holds before a call, and after one that is let in, holds after every call
 pub keeps : {A B : Type 0} (v b p : Bool) (P : A → B → Type 0) (x x' : A) (y y' : B) → P x y → (Admitted v b p → P x' y') → P (left_if (admission_by v b p) x x') (left_if (admission_by v b p) y y')
@@ -80,11 +81,11 @@ module _ (s : State) (v : valid s ≡ true) (records : (i : ℕ) → i < length 
       (λ i l m off e. put_valid s who v g records sized i l off e) w rq d
 
 -- and the prepared write: what Prepare takes has a handle and at most 512 bytes
-granted_handle : (p : Prepared) (h off n : ℕ) → may_prepare p h off n ≡ Granted → eqb h 0 ≡ false
+granted_handle : (p : Prepared) (h off n : ℕ) → may_prepare p h off n ≡ (Ok tt) → eqb h 0 ≡ false
 unfolding prepare_rule
 granted_handle p h off n e = by (eqb h 0) _ e
   where
-    by : (t : Bool) (x : Access) → cond t (Denied 0x01) x ≡ Granted → t ≡ false
+    by : (t : Bool) (x : Access) → cond t (Err InvalidHandle) x ≡ (Ok tt) → t ≡ false
     by true x e = cc
     by false x e = refl
 
@@ -93,13 +94,13 @@ unfolding record_ok both
 none_ok = refl
 
 module _ (p : Prepared) (ok : record_ok p ≡ true) where
-  longer_ok : (h off n : ℕ) → may_prepare p h off n ≡ Granted → record_ok (longer p h off n) ≡ true
+  longer_ok : (h off n : ℕ) → may_prepare p h off n ≡ (Ok tt) → record_ok (longer p h off n) ≡ true
   unfolding record_ok longer
   longer_ok h off n e = rw (granted_handle p h off n e) (both_true _ _ (le-leb (p.len + n) value_bytes (granted_fits p h off n e)) refl)
 
   prepared_ok : (h off n : ℕ) (r : Access) → may_prepare p h off n ≡ r → record_ok (if_granted r (longer p h off n) p) ≡ true
-  prepared_ok h off n Granted e = longer_ok h off n e
-  prepared_ok h off n (Denied c) e = ok
+  prepared_ok h off n (Ok tt) e = longer_ok h off n e
+  prepared_ok h off n (Err c) e = ok
 
   changed_ok : (c : Change) (n : ℕ) → record_ok (record_after p c n) ≡ true
   unfolding record_after

@@ -1,6 +1,6 @@
 -- `process`: what a request tells, and what stands after it (document 01, "Handlers" and "Refusals of a call"). Assumes
 -- nothing.
-use Rattle.std.specs.Prelude.{ℕ, ◌≡◌, List, length}
+use Rattle.std.specs.Prelude.{ℕ, ◌≡◌, List, length, Result}
 use Rattle.table_view.specs.Told.{Told}
 use Rattle.attribute.specs.declared.Link.{Link}
 use Rattle.peers.specs.Identity.{is_bad}
@@ -12,10 +12,10 @@ use Rattle.model.specs.View.{View, pending_of, view_of, own_table}
 use Rattle.model.specs.Answer.{request_told}
 use Rattle.model.specs.Told.{Answered}
 use Rattle.model.specs.Change.{state_by, record_by, data_by}
-use Rattle.model.specs.declared.Answer.{Answer}
 use Rattle.model.specs.declared.Request.{Request}
-use Rattle.admission.specs.Admission.{admission_by, is_bad_buffer, told_if, left_if}
-use Rattle.admission.specs.declared.Admission.{Admission}
+use Rattle.admission.specs.Admission.{admission_by, is_bad_buffer, told_if, left_if, Admission}
+use Rattle.model.specs.declared.Answer.{Answer}
+use Rattle.model.specs.declared.CallError.{CallError}
 
 -- a request: who asks, over which link, what, and the bytes that it brings
 pub record Query : Type 0 where
@@ -52,7 +52,7 @@ module _ (s : State) (w : Waiting) (q : Query) (room : ℕ) where
   process_waits = left_if let_in w waiting_by
 
 -- the promise: the answer and the buffer, the state, and what waits at the link
-pub record Processed (s : State) (w : Waiting) (q : Query) (out : List ℕ) (a : Answer) (s' : State) (w' : Waiting) (new : List ℕ) : Type 0 where
+pub record Processed (s : State) (w : Waiting) (q : Query) (out : List ℕ) (a : Result Answer CallError) (s' : State) (w' : Waiting) (new : List ℕ) : Type 0 where
   pub answer : Answered out new a (process_told s w q (length out))
   pub left : s' ≡ process_left s w q (length out)
   pub waits : w' ≡ process_waits s w q (length out)

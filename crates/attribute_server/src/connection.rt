@@ -5,7 +5,7 @@ ghost use Rattle.model.specs.Told.{told_answer};
 ghost use Rattle.attribute_server.specs.Connection.{connect_told, connect_left, disconnect_told, disconnect_left};
 
 use crate::inner;
-use model::Answer;
+use model::{Answer, CallError};
 use peers::inner::first;
 use peers::{Identity, Want};
 use wire::sizes::{Record, SlotBytes, Table};
@@ -17,17 +17,20 @@ pub fn connect(
     row: &mut [SlotBytes],
     tables: &mut [Table],
     who: Identity,
-) -> Answer
+) -> Result<Answer, CallError>
     ensures { let s = lent list.now store.now row.old tables.old in
         (told_answer [] result ≡ connect_told s who)
         × (lent list.now store.now row.new tables.new ≡ connect_left s who) }
 {
     let usable = first(row, who, Want::Usable);
     let free = first(row, who, Want::Free);
-    let m = peers::inner::join(usable, free, row.len(), who);
-    let o = inner::act(list, store, row, tables, who, m);
-    peers::inner::put(row, o.m);
-    o.answer
+    let m = peers::inner::join(usable, free, who);
+    inner::act(list, store, row, tables, who, m)?;
+    let Some(m) = m else {
+        return Err(CallError::NoSlot);
+    };
+    peers::inner::put(row, m);
+    Ok(Answer::Done)
 }
 
 // Disconnects a peer, which keeps its slot where it is bonded.
@@ -38,14 +41,16 @@ pub fn disconnect(
     tables: &mut [Table],
     who: Identity,
     bonded: bool,
-) -> Answer
+) -> Result<Answer, CallError>
     ensures { let s = lent list.now store.now row.old tables.old in
         (told_answer [] result ≡ disconnect_told s who bonded)
         × (lent list.now store.now row.new tables.new ≡ disconnect_left s who bonded) }
 {
     let own = first(row, who, Want::Own);
     let m = peers::inner::part(row, own, bonded);
-    let o = inner::act(list, store, row, tables, who, m);
-    peers::inner::put(row, o.m);
-    o.answer
+    inner::act(list, store, row, tables, who, m)?;
+    if let Some(m) = m {
+        peers::inner::put(row, m);
+    }
+    Ok(Answer::Done)
 }

@@ -1,21 +1,15 @@
 // A peer that comes or goes, once the walk over the row has said what that comes to.
-ghost use Rattle.std.specs.Prelude.{◌≡◌, true, [], ◌<◌, length};
+ghost use Rattle.std.specs.Prelude.{◌≡◌, true, ◌<◌, length};
+ghost use Rattle.peers.specs.declared.Move.{Move};
 ghost use Rattle.state.specs.State.{lent};
-ghost use Rattle.model.specs.Told.{told_answer};
-ghost use Rattle.admission.specs.Admission.{admission, left_if};
-ghost use Rattle.attribute_server.specs.Connection.{move_told, move_left, no_move};
+ghost use Rattle.admission.specs.Admission.{admission};
+ghost use Rattle.attribute_server.specs.Connection.{move_left};
 
-use admission::{Admission, admit};
-use model::Answer;
+use admission::admit;
+use model::CallError;
 use peers::{Identity, Move};
+use state::Lent;
 use wire::sizes::{Record, SlotBytes, Table};
-
-// What is answered, and what is left to put into the row.
-#[derive(Clone, Copy)]
-pub struct Joining {
-    pub answer: Answer,
-    pub m: Move,
-}
 
 // Refuses, or does to the tables what a move asks; the row is the caller's to change.
 pub fn act(
@@ -24,33 +18,24 @@ pub fn act(
     row: &[SlotBytes],
     tables: &mut [Table],
     who: Identity,
-    m: Move,
-) -> Joining
-    requires { m.clears ≡ true → m.place < length row.now }
+    m: Option<Move>,
+) -> Result<(), CallError>
+    requires { (k : Move) → m ≡ Some k → k.clears ≡ true → k.seat.0 < length row.now }
     ensures { let s = lent list.now store.now row.now tables.old in
-        (told_answer [] result.answer ≡ move_told s who m)
-        × (result.m ≡ left_if (admission s who) (no_move (length row.now) m) m)
+        (result ≡ admission s who)
         × (tables.new ≡ (move_left s who m).tables) }
 {
-    if let Admission::No(a) = admit(list, store, row, tables, who) {
-        let slot = m.slot;
-        let none = Move {
-            place: row.len(),
-            slot,
-            clears: false,
-            full: m.full,
-        };
-        return Joining { answer: a, m: none };
+    admit(
+        Lent {
+            list,
+            store,
+            row,
+            tables,
+        },
+        who,
+    )?;
+    if let Some(m) = m {
+        peers::inner::settle(tables, m);
     }
-    peers::inner::settle(tables, m);
-    if m.full {
-        return Joining {
-            answer: Answer::NoSlot,
-            m,
-        };
-    }
-    Joining {
-        answer: Answer::Done,
-        m,
-    }
+    Ok(())
 }

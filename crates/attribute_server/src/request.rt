@@ -6,22 +6,21 @@ ghost use Rattle.state.specs.State.{lent, waiting};
 ghost use Rattle.requests.specs.Slot.{given_slot};
 ghost use Rattle.attribute_server.specs.Request.{query, Processed};
 
-use admission::Admission;
 use admission::request::admit_request;
 use attribute::Link;
 use model::Request;
-use peers::{Identity, Seated, Want};
+use peers::{Identity, Seat, Want};
 use preparing::Changed;
 use preparing::inner::with_record;
-use state::Prepared;
+use state::{Lent, Prepared};
 use wire::sizes::{PreparedBytes, Record, SlotBytes, Table};
 
 // The peer's slot, where the request needs it: most that only discover do not.
-fn slot_for(row: &[SlotBytes], who: Identity, rq: Request) -> Seated
+fn slot_for(row: &[SlotBytes], who: Identity, rq: Request) -> Option<Seat>
     ensures { result ≡ given_slot rq (slot_of (row_of row.now) who) }
 {
     if !requests::inner::needs_slot(rq) {
-        return Seated::Nothing;
+        return None;
     }
     peers::inner::first(row, who, Want::Own)
 }
@@ -47,18 +46,15 @@ pub fn process(
         result.answer (lent list.new store.new row.now tables.new)
         (waiting result.prepared bytes.new) out.new }
 {
-    if let Admission::No(a) = admit_request(
+    let hub = Lent {
         list,
         store,
         row,
         tables,
-        who,
-        p,
-        rq,
-        d.len(),
-        out.len(),
-    ) {
-        return with_record(p, a);
+    };
+    let (n, room) = (d.len(), out.len());
+    if let Err(e) = admit_request(hub, who, p, rq, n, room) {
+        return with_record(p, Err(e));
     }
     let slot = slot_for(row, who, rq);
     requests::inner::answer(list, store, tables, slot, link, p, bytes, rq, d, out)

@@ -1,12 +1,11 @@
 -- The walks of list answers: the places of a range, the entries of a type, and the groups of entries. Assumes nothing.
-use Rattle.std.specs.Prelude.{ℕ, ◌≤◌, ◌<◌, ◌≡◌, Bool, true, false, cond, not, List, [], length, get_or, take, drop, eqb}
+use Rattle.std.specs.Prelude.{ℕ, ◌≤◌, ◌<◌, ◌≡◌, Bool, true, false, cond, not, List, [], length, get_or, take, drop, eqb, Option, Some, None}
 use Rattle.wire.specs.Test.{both}
 use Rattle.wire.specs.Number.{word}
 use Rattle.wire.specs.Uuid.{same_uuid}
 use Rattle.attribute.specs.Record.{Entry, entry_of, uuid_of}
 use Rattle.attribute.specs.Lookup.{handle_of, group_end_at}
 use Rattle.attribute_walk.specs.declared.group.Group.{Group}
-use Rattle.attribute_walk.specs.declared.ShortForm.{ShortForm}
 
 -- each handle is above the ones before it
 pub record Ascends (list : List (List ℕ)) : Type 0 where
@@ -18,20 +17,21 @@ pub record Parts (list : List (List ℕ)) (h p : ℕ) : Type 0 where
   pub below : (j : ℕ) → j < p → handle_of (get_or list j []) < h
   pub above : (j : ℕ) → p ≤ j → j < length list → h ≤ handle_of (get_or list j [])
 
--- a UUID's short form: its own two bytes, or those that the Base UUID widens to it
-unfoldable pub short_of : List ℕ → ShortForm
+-- the number of a UUID's short form: of its own two bytes, or of those that the Base UUID widens to it
+unfoldable pub short_of : List ℕ → Option ℕ
 short_of u =
     cond (eqb (length u) 2)
-    (record { has = true; value = word u 0 })
-    (cond (both (eqb (length u) 16) (same_uuid (take 2 (drop 12 u)) u)) (record { has = true; value = word u 12 }) (record { has = false; value = 0 }))
+    (Some (word u 0))
+    (cond (both (eqb (length u) 16) (same_uuid (take 2 (drop 12 u)) u)) (Some (word u 12)) None)
 
 -- a record that has a long UUID, or the short one of this number
 unfoldable pub may_be : ℕ → List ℕ → Bool
 may_be n r = cond (eqb (get_or r 11 0) 2) (eqb (word r 12) n) true
 
 -- a record that may be of a type, by the type's short form: where there is none, only one that has a long UUID
-unfoldable pub may_match : ShortForm → List ℕ → Bool
-may_match s r = cond s.has (may_be s.value r) (not (eqb (get_or r 11 0) 2))
+unfoldable pub may_match : Option ℕ → List ℕ → Bool
+may_match (Some n) r = may_be n r
+may_match None r = not (eqb (get_or r 11 0) 2)
 
 -- a record of a type, after widening
 abbrev pub is_of_type : List ℕ → List ℕ → Bool

@@ -17,6 +17,7 @@ pub struct Group {
 }
 
 // Whether a short UUID is a service's, primary or secondary: 0x2800 or 0x2801.
+#[tactic(auto, using(crate::proofs::Short::no_service, crate::proofs::Short::service_by))]
 fn is_short_service(r: &[u8]) -> bool
     requires { (length r.now ≡ record_bytes) × (get_or r.now 11 0 ≡ 2) }
     ensures { result ≡ is_service (entry_of r.now) }
@@ -38,6 +39,7 @@ fn is_service_uuid(u: &[u8]) -> bool
 }
 
 // Whether a record's is.
+#[tactic(auto, unfolding(attribute::specs::Lookup::is_service, attribute::specs::Record::entry_of))]
 fn is_wide_service(r: &[u8]) -> bool
     requires { length r.now ≡ record_bytes }
     ensures { result ≡ is_service (entry_of r.now) }
@@ -63,15 +65,16 @@ fn group_at(list: &[Record], i: usize) -> Group
     ensures { (i < result.stop) × (result.stop ≤ length list.now) × InGroup list.now i result }
 {
     let mut end = handle_at(list, i);
-    let mut j = i + 1;
-    while j < list.len() {
+    for j in i + 1..list.len() {
         if is_service(list, j) {
-            return Group { stop: j, end: end };
+            return Group { stop: j, end };
         }
         end = handle_at(list, j);
-        j += 1;
     }
-    Group { stop: j, end: end }
+    Group {
+        stop: list.len(),
+        end,
+    }
 }
 
 // The group of the entry at place i: the one before, as long as it reaches that far.

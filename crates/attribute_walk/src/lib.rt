@@ -12,10 +12,3 @@ pub struct Stretch {
     pub from: usize,
     pub to: usize,
 }
-
-// The short form of a UUID: whether it has one, and its number.
-#[derive(Clone, Copy)]
-pub struct ShortForm {
-    pub has: bool,
-    pub value: u16,
-}

@@ -4,5 +4,4 @@
 
 pub mod memory;
 pub mod peer;
-pub mod prepared;
 pub mod reply;

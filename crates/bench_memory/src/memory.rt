@@ -1,57 +1,80 @@
-// What the bench remembers from line to line, but for its arrays, which are lent beside it.
-use lines::say;
-use std::io;
+// What the bench remembers from line to line.
+use arrayvec::ArrayVec;
+use state::{Lent, Prepared};
+use std::alloc::AllocError;
+use wire::sizes::{
+    PreparedBytes, Record, SLOT_SIZE, SLOTS, SlotBytes, TABLE_SIZE, Table, VALUE_SIZE,
+};
 
-// The counts of the pending list and store; whether a hub is open, and its counts; and whether the bytes past the last
-// response were as they were lent.
+// How many links there are.
+pub const LINKS: usize = 16;
+
+// An attribute list, and the store of its values.
+#[derive(Drop)]
+pub struct Stock {
+    pub list: ArrayVec<Record, 65>,
+    pub store: ArrayVec<u8, 4100>,
+}
+
+// A link's prepared write.
 #[derive(Clone, Copy)]
-pub struct Bench {
-    pub pending: usize,
-    pub kept: usize,
-    pub open: bool,
-    pub entries: usize,
-    pub store: usize,
+pub struct Waiting {
+    pub prepared: Prepared,
+    pub bytes: PreparedBytes,
+}
+
+// An open hub: what its calls are lent, and whether the last request left the bytes past its response as they were.
+#[derive(Drop)]
+pub struct Hub {
+    pub stock: Stock,
+    pub row: [SlotBytes; SLOTS],
+    pub tables: [Table; SLOTS],
+    pub waiting: [Waiting; LINKS],
     pub clean: bool,
 }
 
-// What a group of calls answers that may change this: whether the line was one of them, and the bench after it.
-#[derive(Clone, Copy)]
-pub struct Handled {
-    pub known: bool,
-    pub bench: Bench,
-}
+impl Stock {
+    pub fn new() -> Stock {
+        Stock {
+            list: ArrayVec::new(),
+            store: ArrayVec::new(),
+        }
+    }
 
-pub fn known(bench: Bench) -> Handled {
-    Handled { known: true, bench }
-}
-
-pub fn unknown(bench: Bench) -> Handled {
-    Handled {
-        known: false,
-        bench,
+    // Nothing is allocated for it: an `ArrayVec` holds its elements itself, so that the copy never fails.
+    pub fn copy(&self) -> Result<Stock, AllocError> {
+        Ok(Stock {
+            list: self.list.clone()?,
+            store: self.store.clone()?,
+        })
     }
 }
 
-// A bench with nothing pending and no hub.
-pub fn fresh() -> Bench {
-    Bench {
-        pending: 0,
-        kept: 0,
-        open: false,
-        entries: 0,
-        store: 0,
-        clean: true,
-    }
+// No prepared write on any link.
+pub fn idle() -> [Waiting; LINKS] {
+    let prepared = Prepared::default();
+    let bytes = [0; VALUE_SIZE];
+    [Waiting { prepared, bytes }; LINKS]
 }
 
-// Whether a call on a hub goes on. If not, it is said why: its words are none of the call's, or there is no hub yet.
-pub fn goes_on<R: Print>(rt: &R, sound: bool, open: bool) -> io::Result<bool> {
-    if !sound {
-        say::no_call(rt)?;
-        return Ok(false);
+impl Hub {
+    pub fn new() -> Hub {
+        Hub {
+            stock: Stock::new(),
+            row: [[0; SLOT_SIZE]; SLOTS],
+            tables: [[0; TABLE_SIZE]; SLOTS],
+            waiting: idle(),
+            clean: true,
+        }
     }
-    if !open {
-        say::line(rt, b"closed")?;
+
+    // What a call that only reads is lent.
+    pub fn lent(&self) -> Lent<'_> {
+        Lent {
+            list: &self.stock.list,
+            store: &self.stock.store,
+            row: &self.row,
+            tables: &self.tables,
+        }
     }
-    Ok(open)
 }

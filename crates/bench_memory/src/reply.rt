@@ -2,22 +2,21 @@
 use lines::{parts, say};
 use numbers::Reply;
 use std::io;
-use table_view::Got;
+use table_view::{NotATable, Span};
 
-fn code<R: Print>(rt: &R, c: u8) -> io::Result<()> {
+pub fn code<R: Print>(rt: &R, c: u8) -> io::Result<()> {
     say::bytes(rt, b"att ", &[c])
 }
 
-fn refused<R: Print>(rt: &R, n: u8) -> io::Result<()> {
+pub fn refused<R: Print>(rt: &R, n: u8) -> io::Result<()> {
     say::say(rt, b"refused ")?;
-    say::number(rt, n as u16)?;
+    say::number(rt, u16::from(n))?;
     say::say(rt, b"\n")
 }
 
 // A reply that carries no value, with the words for done and for nothing.
 fn tell<R: Print>(rt: &R, r: Reply, done: &[u8], nothing: &[u8]) -> io::Result<()> {
-    let status = r.status;
-    match status {
+    match r.status {
         0 => say::line(rt, done),
         1 => say::line(rt, nothing),
         3 => code(rt, r.code),
@@ -43,15 +42,20 @@ pub fn tell_value<R: Print>(rt: &R, r: Reply, name: &[u8], out: &[u8; 1024]) -> 
 }
 
 // The bytes of a table that an answer names.
-pub fn tell_part<R: Print>(rt: &R, name: &[u8], b: &[u8], r: Got) -> io::Result<()> {
+pub fn tell_part<R: Print>(
+    rt: &R,
+    name: &[u8],
+    b: &[u8],
+    r: Result<Option<Span>, NotATable>,
+) -> io::Result<()> {
     match r {
-        Got::Value(s) => say::bytes(rt, name, table_view::part(b, s)),
-        Got::NotFound => say::line(rt, b"none"),
-        Got::Refused => say::line(rt, b"refused 4"),
+        Ok(Some(s)) => say::bytes(rt, name, table_view::part(b, s)),
+        Ok(None) => say::line(rt, b"none"),
+        Err(NotATable) => refused(rt, 4),
     }
 }
 
 // A table up to its values' end.
 pub fn tell_table<R: Print>(rt: &R, table: &[u8]) -> io::Result<()> {
-    tell_part(rt, b"table ", table, table_view::raw(table))
+    tell_part(rt, b"table ", table, table_view::raw(table).map(Some))
 }

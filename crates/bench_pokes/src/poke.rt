@@ -1,126 +1,94 @@
 // The lent state altered with no test, to reach states that calls do not.
-use bench_memory::prepared::{LINKS, Numbers};
-use bench_memory::{memory, peer};
-use lines::{number, parts, say, words};
-use peers::{Slot, one};
+use bench_memory::memory::{Hub, LINKS, Waiting};
+use bench_memory::peer;
+use lines::{number, parts, say};
+use peers::Slot;
+use state::Prepared;
 use std::io;
-use wire::Found;
-use wire::sizes::{PreparedBytes, Record, SlotBytes, TABLE_SIZE, Table, VALUE_SIZE};
+use wire::sizes::{SLOTS, SlotBytes, TABLE_SIZE, VALUE_SIZE};
 
-fn slot<R: Print>(rt: &R, line: &[u8], row: &mut [SlotBytes], open: bool) -> io::Result<()> {
-    let place = number::at(line, 1);
-    let who = peer::read(line, 2);
-    let connected = number::at(line, 3);
-    let sound = (place < row.len()) & who.ok & (connected <= 0xFF);
-    if !memory::goes_on(rt, sound, open)? {
-        return Ok(());
-    }
-    let id = who.id;
-    let s = Slot {
-        id,
-        connected: number::low8(connected),
+pub fn slot<R: Print>(rt: &R, line: &[u8], hub: Option<&mut Hub>) -> io::Result<()> {
+    let words = (
+        number::at(line, 1),
+        peer::read(line, 2),
+        number::at(line, 3),
+    );
+    let (Some(place @ 0..SLOTS), Some(id), Some(connected)) = words else {
+        return say::no_call(rt);
     };
-    if place < row.len() {
-        row[place] = one::encode(s);
-        say::line(rt, b"ok")?;
-    }
-    Ok(())
+    let Some(hub) = hub else {
+        return say::closed(rt);
+    };
+    hub.row[place] = SlotBytes::from(Slot { id, connected });
+    say::line(rt, b"ok")
 }
 
-fn table<R: Print>(rt: &R, line: &[u8], tables: &mut [Table], open: bool) -> io::Result<()> {
-    let place = number::at(line, 1);
-    let mut t = [0u8; TABLE_SIZE];
-    let n = number::bytes_at(line, 2, &mut t);
-    if !memory::goes_on(rt, (place < tables.len()) & (n <= TABLE_SIZE), open)? {
-        return Ok(());
-    }
-    if place < tables.len() {
-        tables[place] = t;
-        say::line(rt, b"ok")?;
-    }
-    Ok(())
+pub fn table<R: Print>(rt: &R, line: &[u8], hub: Option<&mut Hub>) -> io::Result<()> {
+    let mut t = [0; TABLE_SIZE];
+    let (Some(place @ 0..SLOTS), Some(_)) = (number::at(line, 1), number::bytes_at(line, 2, &mut t))
+    else {
+        return say::no_call(rt);
+    };
+    let Some(hub) = hub else {
+        return say::closed(rt);
+    };
+    hub.tables[place] = t;
+    say::line(rt, b"ok")
 }
 
-fn length<R: Print>(rt: &R, line: &[u8], list: &mut [Record], open: bool) -> io::Result<()> {
-    let handle = number::at(line, 1);
-    let len = number::at(line, 2);
-    if !memory::goes_on(rt, (handle <= 0xFFFF) & (len <= 0xFFFF), open)? {
-        return Ok(());
-    }
-    let Found::At(i) = attribute::lookup::find_handle(list, number::low16(handle)) else {
+pub fn length<R: Print>(rt: &R, line: &[u8], hub: Option<&mut Hub>) -> io::Result<()> {
+    let (Some(handle), Some(len)) = (number::at(line, 1), number::at(line, 2)) else {
+        return say::no_call(rt);
+    };
+    let Some(hub) = hub else {
+        return say::closed(rt);
+    };
+    let Some(i) = attribute::lookup::find_handle(&hub.stock.list, handle) else {
         return say::line(rt, b"none");
     };
-    if i < list.len() {
-        attribute::inner::set_length(list, i, number::low16(len));
+    if i < hub.stock.list.len() {
+        attribute::inner::set_length(&mut hub.stock.list, i, len);
         say::line(rt, b"ok")?;
     }
     Ok(())
 }
 
-fn store<R: Print>(rt: &R, line: &[u8], s: &mut [u8], open: bool) -> io::Result<()> {
-    let at = number::at(line, 1);
-    let mut d = [0u8; 4100];
-    let n = number::bytes_at(line, 2, &mut d);
-    if !memory::goes_on(rt, n <= 4100, open)? {
-        return Ok(());
-    }
-    if parts::put(s, at, parts::front(&d, n)) {
-        say::line(rt, b"ok")
-    } else {
-        say::no_call(rt)
+// A first word that is no number names no place of the store, as one past its end does: of both it is told last.
+pub fn store<R: Print>(rt: &R, line: &[u8], hub: Option<&mut Hub>) -> io::Result<()> {
+    let mut d = [0; 4100];
+    let Some(bytes) = number::bytes_at(line, 2, &mut d) else {
+        return say::no_call(rt);
+    };
+    let Some(hub) = hub else {
+        return say::closed(rt);
+    };
+    match number::at(line, 1) {
+        Some(at) if parts::put(&mut hub.stock.store, at, bytes) => say::line(rt, b"ok"),
+        _ => say::no_call(rt),
     }
 }
 
-fn record<R: Print>(
-    rt: &R,
-    line: &[u8],
-    waiting: &mut [Numbers; LINKS],
-    bytes: &mut [PreparedBytes; LINKS],
-    open: bool,
-) -> io::Result<()> {
-    let place = number::at(line, 1);
-    let handle = number::at(line, 2);
-    let offset = number::at(line, 3);
-    let mut d = [0u8; VALUE_SIZE];
-    let n = number::bytes_at(line, 4, &mut d);
-    let sound = (place < LINKS) & (handle <= 0xFFFF) & (offset <= 0xFFFF) & (n <= VALUE_SIZE);
-    if !memory::goes_on(rt, sound, open)? {
-        return Ok(());
-    }
-    if place < LINKS {
-        bytes[place] = d;
-        waiting[place] = [
-            number::low16(handle),
-            number::low16(offset),
-            number::low16(n),
-        ];
-        say::line(rt, b"ok")?;
-    }
-    Ok(())
-}
-
-// Answers whether the line was one of these calls.
-pub fn answer<R: Print>(
-    rt: &R,
-    line: &[u8],
-    list: &mut [Record],
-    s: &mut [u8],
-    row: &mut [SlotBytes],
-    tables: &mut [Table],
-    waiting: &mut [Numbers; LINKS],
-    bytes: &mut [PreparedBytes; LINKS],
-    open: bool,
-) -> io::Result<bool> {
-    match words::call(
-        line,
-        b"pokeslot/3 poketab/2 pokelen/2 pokestore/2 pokerec/4",
-    ) {
-        0 => slot(rt, line, row, open)?,
-        1 => table(rt, line, tables, open)?,
-        2 => length(rt, line, list, open)?,
-        3 => store(rt, line, s, open)?,
-        4 => record(rt, line, waiting, bytes, open)?,
-        _ => return Ok(false),
-    }
-    Ok(true)
+// A prepared write, with zeros after its bytes.
+pub fn record<R: Print>(rt: &R, line: &[u8], hub: Option<&mut Hub>) -> io::Result<()> {
+    let mut bytes = [0; VALUE_SIZE];
+    let len = number::bytes_at(line, 4, &mut bytes).and_then(|d| u16::try_from(d.len()).ok());
+    let words = (
+        number::at(line, 1),
+        number::at(line, 2),
+        number::at(line, 3),
+        len,
+    );
+    let (Some(place @ 0..LINKS), Some(handle), Some(offset), Some(len)) = words else {
+        return say::no_call(rt);
+    };
+    let Some(hub) = hub else {
+        return say::closed(rt);
+    };
+    let prepared = Prepared {
+        handle,
+        offset,
+        len,
+    };
+    hub.waiting[place] = Waiting { prepared, bytes };
+    say::line(rt, b"ok")
 }

@@ -2,137 +2,96 @@
 // subscribed to it.
 #![tactic(auto)]
 
-use bench_memory::{memory, peer, reply};
-use lines::{number, parts, words};
+use application::Bell;
+use attribute::Wish;
+use bench_memory::memory::Hub;
+use bench_memory::{peer, reply};
+use lines::{number, say, words};
 use std::io;
-use wire::least;
-use wire::sizes::{Record, SlotBytes, Table};
 
 // Copies a value out. No value is over 512 bytes, so that 1,024 stand for any more.
-fn get<R: Print>(
-    rt: &R,
-    line: &[u8],
-    list: &[Record],
-    store: &[u8],
-    row: &[SlotBytes],
-    tables: &[Table],
-    open: bool,
-) -> io::Result<()> {
-    let who = peer::read(line, 1);
-    let handle = number::at(line, 2);
-    let size = number::at(line, 3);
-    let sound = who.ok & (handle <= 0xFFFF) & (size != number::NONE);
-    if !memory::goes_on(rt, sound, open)? {
-        return Ok(());
-    }
-    let mut out = [0xEEu8; 1024];
-    let n = least(size, 1024);
-    let id = who.id;
-    let key = number::low16(handle);
-    let r = edge::value::get(list, store, row, tables, id, key, &mut out[..n]);
+fn get<R: Print>(rt: &R, line: &[u8], hub: Option<&mut Hub>) -> io::Result<()> {
+    let words = (
+        peer::read(line, 1),
+        number::at(line, 2),
+        number::at::<usize>(line, 3),
+    );
+    let (Some(who), Some(handle), Some(size)) = words else {
+        return say::no_call(rt);
+    };
+    let Some(hub) = hub else {
+        return say::closed(rt);
+    };
+    let mut out = [0xEE; 1024];
+    let n = size.min(1024);
+    let r = edge::value::get(hub.lent(), who, handle, &mut out[..n]);
     reply::tell_value(rt, r, b"val ", &out)
 }
 
-fn set<R: Print>(
-    rt: &R,
-    line: &[u8],
-    list: &mut [Record],
-    store: &mut [u8],
-    row: &[SlotBytes],
-    tables: &mut [Table],
-    open: bool,
-) -> io::Result<()> {
-    let who = peer::read(line, 1);
-    let handle = number::at(line, 2);
-    let mut d = [0u8; 4100];
-    let n = number::bytes_at(line, 3, &mut d);
-    let sound = who.ok & (handle <= 0xFFFF) & (n <= 4100);
-    if !memory::goes_on(rt, sound, open)? {
-        return Ok(());
-    }
-    let id = who.id;
-    let key = number::low16(handle);
-    let r = edge::value::set(list, store, row, tables, id, key, parts::front(&d, n));
+fn set<R: Print>(rt: &R, line: &[u8], hub: Option<&mut Hub>) -> io::Result<()> {
+    let mut d = [0; 4100];
+    let words = (
+        peer::read(line, 1),
+        number::at(line, 2),
+        number::bytes_at(line, 3, &mut d),
+    );
+    let (Some(who), Some(handle), Some(value)) = words else {
+        return say::no_call(rt);
+    };
+    let Some(hub) = hub else {
+        return say::closed(rt);
+    };
+    let r = edge::value::set(
+        &mut hub.stock.list,
+        &mut hub.stock.store,
+        &hub.row,
+        &mut hub.tables,
+        who,
+        handle,
+        value,
+    );
     reply::tell_done(rt, r)
 }
 
-// Whether a link may read, or write, what stands under a handle.
-fn may<R: Print>(
-    rt: &R,
-    line: &[u8],
-    list: &[Record],
-    store: &[u8],
-    row: &[SlotBytes],
-    tables: &[Table],
-    open: bool,
-    writes: bool,
-) -> io::Result<()> {
-    let who = peer::read(line, 1);
-    let level = peer::level(line, 2);
-    let handle = number::at(line, 3);
-    let sound = who.ok & (level != 255) & (handle <= 0xFFFF);
-    if !memory::goes_on(rt, sound, open)? {
-        return Ok(());
-    }
-    let id = who.id;
-    let key = number::low16(handle);
-    if writes {
-        let r = edge::value::can_write(list, store, row, tables, id, level, key);
-        reply::tell_done(rt, r)
-    } else {
-        let r = edge::value::can_read(list, store, row, tables, id, level, key);
-        reply::tell_done(rt, r)
-    }
+// Whether a link may do what it wishes with what stands under a handle.
+fn can<R: Print>(rt: &R, line: &[u8], hub: Option<&mut Hub>, wish: Wish) -> io::Result<()> {
+    let words = (
+        peer::read(line, 1),
+        peer::level(line, 2),
+        number::at(line, 3),
+    );
+    let (Some(who), Some(level), Some(handle)) = words else {
+        return say::no_call(rt);
+    };
+    let Some(hub) = hub else {
+        return say::closed(rt);
+    };
+    reply::tell_done(rt, edge::value::can(hub.lent(), who, level, handle, wish))
 }
 
 // Whether a peer has subscribed to notifications, or to indications.
-fn subscribed<R: Print>(
-    rt: &R,
-    line: &[u8],
-    list: &[Record],
-    store: &[u8],
-    row: &[SlotBytes],
-    tables: &[Table],
-    open: bool,
-    indications: bool,
-) -> io::Result<()> {
-    let who = peer::read(line, 1);
-    let handle = number::at(line, 2);
-    let sound = who.ok & (handle <= 0xFFFF);
-    if !memory::goes_on(rt, sound, open)? {
-        return Ok(());
-    }
-    let id = who.id;
-    let key = number::low16(handle);
-    if indications {
-        let r = edge::subscription::should_indicate(list, store, row, tables, id, key);
-        reply::tell_whether(rt, r)
-    } else {
-        let r = edge::subscription::should_notify(list, store, row, tables, id, key);
-        reply::tell_whether(rt, r)
-    }
+fn should<R: Print>(rt: &R, line: &[u8], hub: Option<&mut Hub>, bell: Bell) -> io::Result<()> {
+    let (Some(who), Some(handle)) = (peer::read(line, 1), number::at(line, 2)) else {
+        return say::no_call(rt);
+    };
+    let Some(hub) = hub else {
+        return say::closed(rt);
+    };
+    reply::tell_whether(
+        rt,
+        edge::subscription::should(hub.lent(), who, handle, bell),
+    )
 }
 
 // Answers whether the line was one of these calls. None of them changes a slot or a prepared write.
-pub fn answer<R: Print>(
-    rt: &R,
-    line: &[u8],
-    list: &mut [Record],
-    store: &mut [u8],
-    row: &[SlotBytes],
-    tables: &mut [Table],
-    open: bool,
-) -> io::Result<bool> {
-    match words::call(
-        line,
-        b"get/3 set/3 canread/3 canwrite/3 notify/2 indicate/2",
-    ) {
-        0 => get(rt, line, list, store, row, tables, open)?,
-        1 => set(rt, line, list, store, row, tables, open)?,
-        2 => may(rt, line, list, store, row, tables, open, false)?,
-        3 => may(rt, line, list, store, row, tables, open, true)?,
-        4 => subscribed(rt, line, list, store, row, tables, open, false)?,
-        5 => subscribed(rt, line, list, store, row, tables, open, true)?,
+pub fn answer<R: Print>(rt: &R, line: &[u8], hub: Option<&mut Hub>) -> io::Result<bool> {
+    match words::call(line) {
+        (b"get", 3) => get(rt, line, hub)?,
+        (b"set", 3) => set(rt, line, hub)?,
+        (b"canread", 3) => can(rt, line, hub, Wish::Read)?,
+        (b"canwrite", 3) => can(rt, line, hub, Wish::Write)?,
+        (b"notify", 2) => should(rt, line, hub, Bell::Notify)?,
+        (b"indicate", 2) => should(rt, line, hub, Bell::Indicate)?,
         _ => return Ok(false),
     }
     Ok(true)

@@ -1,4 +1,5 @@
 -- No call leaves anything past a variable value's length: the theorem of `specs/Tails.antt`. Assumes nothing.
+use Rattle.std.specs.Prelude.{Result, Ok, Err}
 use mathlib.Core.Path.{◌≡◌, refl, sym, ◌∙◌}
 use mathlib.Core.Bool.{Bool, true, false}
 use mathlib.Core.List.{List, [], ◌∷◌, ◌++◌}
@@ -25,8 +26,6 @@ use Rattle.client_att_table.specs.SetValues.{fitted, take_value, held_at, set_on
 use Rattle.client_att_table.specs.Clear.{cleared, after_clear}
 use Rattle.client_att_table.specs.AsList.{TableCall, write, set_values, clear, get, raw, bytes_after}
 use Rattle.client_att_table.specs.Tails.{ZeroTail, ZeroTails, TailsStayZero}
-use Rattle.client_att_table.specs.declared.Plan.{Plan}
-use Rattle.client_att_table.specs.declared.Plan.TheVariants.{Into, Not}
 use Rattle.client_att_table.proofs.Planning.{admitted}
 use Rattle.client_att_table.proofs.Frame.{Frame, kept_index, frame_index, others}
 use Rattle.client_att_table.proofs.Laid.{laid_past, laid_zero}
@@ -34,6 +33,8 @@ use Rattle.client_att_table.proofs.Writing.{drops_rest, tail_fits, stored_frame,
 use Rattle.client_att_table.proofs.Taking.{take_frame, take_len, one_kept}
 use Rattle.client_att_table.proofs.Clearing.{clear_kept, clear_byte}
 use Rattle.client_att_table.proofs.AsList.{call_kept, no_table, raw_shown}
+use Rattle.table_view.specs.declared.Place.{Place}
+use Rattle.wire.specs.declared.att.AttError.{AttError}
 
 -- bytes that are all zero from the index on have zeros there
 pub all_zero : (bs : List ℕ) → zeros (drop (base_of bs) bs) ≡ true → ZeroTails bs
@@ -103,9 +104,9 @@ module _ (bs : List ℕ) (ok : accepts bs ≡ true) (z : ZeroTails bs) where
         (λ w j a b. let l = take_len bs ok i hi v w in taken_past v j (omega arith) b)
 
   -- a write, by what is decided
-  plan_tails : (k off : ℕ) (d : List ℕ) (p : Plan) → plan_of bs k off (length d) ≡ p → ZeroTails (after_plan bs off d p)
-  plan_tails k off d (Not w) e = z
-  plan_tails k off d (Into p) e =
+  plan_tails : (k off : ℕ) (d : List ℕ) (p : Result Place AttError) → plan_of bs k off (length d) ≡ p → ZeroTails (after_plan bs off d p)
+  plan_tails k off d (Err w) e = z
+  plan_tails k off d (Ok p) e =
       let g = admitted bs k off (length d) p e in
       stored_tails p.0 g.place.inside off d g.room
 

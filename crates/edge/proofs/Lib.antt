@@ -1,4 +1,3 @@
-pub mod Finding
 pub mod Telling
 pub mod Joining
 pub mod Unique

@@ -5,7 +5,7 @@ ghost use Rattle.attribute_server.specs.Connection.{connect_told, connect_left, 
 ghost use Rattle.numbers.specs.Reply.{reply_to};
 ghost use Rattle.numbers.specs.Request.{is_set};
 
-use numbers::{Reply, answer};
+use numbers::Reply;
 use peers::Identity;
 use wire::sizes::{Record, SlotBytes, Table};
 
@@ -21,8 +21,7 @@ pub fn connect(
         (result ≡ reply_to (connect_told s who))
         × (lent list.now store.now row.new tables.new ≡ connect_left s who) }
 {
-    let a = attribute_server::connection::connect(list, store, row, tables, who);
-    answer::reply(a)
+    Reply::from(attribute_server::connection::connect(list, store, row, tables, who))
 }
 
 // A peer leaves: bonded by any byte but 0.
@@ -39,6 +38,5 @@ pub fn disconnect(
         × (lent list.now store.now row.new tables.new ≡ disconnect_left s who (is_set bonded)) }
 {
     let keep = bonded != 0;
-    let a = attribute_server::connection::disconnect(list, store, row, tables, who, keep);
-    answer::reply(a)
+    Reply::from(attribute_server::connection::disconnect(list, store, row, tables, who, keep))
 }

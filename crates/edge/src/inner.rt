@@ -1,36 +1,33 @@
 // Coming and going where the row is lent as slots: the caller has loaded it and walked it, and stores the one slot that
 // changes.
-ghost use Rattle.std.specs.Prelude.{◌≡◌, set};
-ghost use Rattle.peers.specs.Slots.{walk, slot_of};
+ghost use Rattle.std.specs.Prelude.{◌≡◌};
+ghost use Rattle.peers.specs.Slots.{walk, slot_of, row_moved};
 ghost use Rattle.peers.specs.declared.Want.TheVariants.{Usable, Free};
 ghost use Rattle.state.specs.State.{state};
 ghost use Rattle.attribute_server.specs.Connection.{connect_told, connect_left, disconnect_told, disconnect_left};
-ghost use Rattle.numbers.specs.Reply.{reply_to, reply_of};
+ghost use Rattle.numbers.specs.Reply.{reply_to, error_reply};
 ghost use Rattle.numbers.specs.Request.{is_set};
 
-use attribute_server::inner::Joining;
-use numbers::{Reply, answer};
-use peers::{Identity, Seated, Slot};
+use attribute_server::inner::act;
+use model::{Answer, CallError};
+use numbers::Reply;
+use peers::{Identity, Move, Seat, Slot};
 use wire::sizes::{Record, SLOTS, Table};
 
-// The reply, and which slot stands at which place then; a place past the row is none.
+// The reply, and the move of the row that is the caller's to do, if there is one.
 #[derive(Clone, Copy)]
 pub struct Joined {
     pub reply: Reply,
-    pub place: usize,
-    pub slot: Slot,
+    pub m: Option<Move>,
 }
 
-fn numbered(o: Joining) -> Joined
-    ensures { (result.reply ≡ reply_of o.answer) × (result.place ≡ o.m.place) × (result.slot ≡ o.m.slot) }
+// A call that is refused, and moves nothing.
+fn refused(e: CallError) -> Joined
+    ensures { (result.reply ≡ error_reply e) × (result.m ≡ None) }
 {
-    let a = o.answer;
-    let m = o.m;
-    let slot = m.slot;
     Joined {
-        reply: answer::reply(a),
-        place: m.place,
-        slot,
+        reply: Reply::from(e),
+        m: None,
     }
 }
 
@@ -41,17 +38,26 @@ pub fn connect(
     row: [Slot; SLOTS],
     tables: &mut [Table],
     who: Identity,
-    usable: Seated,
-    free: Seated,
+    usable: Option<Seat>,
+    free: Option<Seat>,
 ) -> Joined
     requires { (usable ≡ walk Usable row who) × (free ≡ walk Free row who) }
     ensures { let s = state list.now store.now row tables.old in
         (result.reply ≡ reply_to (connect_told s who))
-        × (state list.now store.now (set row result.place result.slot) tables.new ≡ connect_left s who) }
+        × (state list.now store.now (row_moved row result.m) tables.new ≡ connect_left s who) }
 {
-    let m = peers::inner::join(usable, free, SLOTS, who);
+    let m = peers::inner::join(usable, free, who);
     let bytes = peers::one::encode_row(row);
-    numbered(attribute_server::inner::act(list, store, &bytes, tables, who, m))
+    if let Err(e) = act(list, store, &bytes, tables, who, m) {
+        return refused(e);
+    }
+    let Some(k) = m else {
+        return refused(CallError::NoSlot);
+    };
+    Joined {
+        reply: Reply::from(Ok(Answer::Done)),
+        m: Some(k),
+    }
 }
 
 // A peer leaves, for which the walk has found this.
@@ -62,15 +68,21 @@ pub fn disconnect(
     tables: &mut [Table],
     who: Identity,
     bonded: u8,
-    own: Seated,
+    own: Option<Seat>,
 ) -> Joined
     requires { own ≡ slot_of row who }
     ensures { let s = state list.now store.now row tables.old in
         (result.reply ≡ reply_to (disconnect_told s who (is_set bonded)))
-        × (state list.now store.now (set row result.place result.slot) tables.new ≡ disconnect_left s who (is_set bonded)) }
+        × (state list.now store.now (row_moved row result.m) tables.new ≡ disconnect_left s who (is_set bonded)) }
 {
     let keep = bonded != 0;
     let bytes = peers::one::encode_row(row);
     let m = peers::inner::part(&bytes, own, keep);
-    numbered(attribute_server::inner::act(list, store, &bytes, tables, who, m))
+    if let Err(e) = act(list, store, &bytes, tables, who, m) {
+        return refused(e);
+    }
+    Joined {
+        reply: Reply::from(Ok(Answer::Done)),
+        m,
+    }
 }

@@ -6,7 +6,7 @@ ghost use Rattle.numbers.specs.Reply.{reply_to};
 
 use numbers::Reply;
 use numbers::answer::refused;
-use state::Opened;
+use state::OpenError;
 use wire::sizes::{Record, SlotBytes, Table};
 
 // Lays the list's fresh table into each of the eight tables, and empties the slots.
@@ -15,14 +15,13 @@ pub fn new(list: &[Record], store: &[u8], row: &mut [SlotBytes], tables: &mut [T
         (result ≡ reply_to (new_told s))
         × (lent list.now store.now row.new tables.new ≡ new_left s) }
 {
-    let o = state::new(list, store, row, tables);
-    match o {
-        Opened::Done => Reply {
+    match state::new(list, store, row, tables) {
+        Ok(()) => Reply {
             status: 0,
             code: 0,
             len: 0,
         },
-        Opened::BadList => refused(1),
-        Opened::TooLong => refused(6),
+        Err(OpenError::BadList) => refused(1),
+        Err(OpenError::TooLong) => refused(6),
     }
 }

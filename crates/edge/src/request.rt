@@ -4,7 +4,8 @@ ghost use Rattle.attribute_server.specs.Request.{query};
 ghost use Rattle.numbers.specs.Request.{link_of, request_of};
 ghost use Rattle.edge.specs.Served.{Served};
 
-use numbers::{Reply, RequestNumbers, answer, request};
+use model::Request;
+use numbers::{Reply, RequestNumbers, request};
 use peers::Identity;
 use state::Prepared;
 use wire::sizes::{PreparedBytes, Record, SlotBytes, Table};
@@ -36,14 +37,12 @@ pub fn process(
         (waiting result.next bytes.new) out.new }
 {
     let link = request::link(level);
-    let rq = request::request(q);
+    let rq = Request::from(q);
     let c = attribute_server::request::process(
         list, store, row, tables, who, link, p, bytes, rq, d, out,
     );
-    let next = c.prepared;
-    let a = c.answer;
     Serving {
-        reply: answer::reply(a),
-        next,
+        reply: Reply::from(c.answer),
+        next: c.prepared,
     }
 }

@@ -1,41 +1,19 @@
 // Whether a peer has subscribed: done says yes, nothing no.
 ghost use Rattle.std.specs.Prelude.{◌≡◌};
-ghost use Rattle.state.specs.State.{lent};
+ghost use Rattle.application.specs.Calls.{bit_of};
+ghost use Rattle.state.specs.Lent.{held};
 ghost use Rattle.attribute_server.specs.Subscription.{subscribed_told};
 ghost use Rattle.numbers.specs.Reply.{reply_to};
 
-use numbers::{Reply, answer};
+use application::Bell;
+use numbers::Reply;
 use peers::Identity;
-use wire::sizes::{Record, SlotBytes, Table};
+use state::Lent;
 
-// To notifications.
-pub fn should_notify(
-    list: &[Record],
-    store: &[u8],
-    row: &[SlotBytes],
-    tables: &[Table],
-    who: Identity,
-    handle: u16,
-) -> Reply
-    ensures { let s = lent list.now store.now row.now tables.now in
-        result ≡ reply_to (subscribed_told s who handle 1) }
+// To notifications, or to indications.
+pub fn should(hub: Lent, who: Identity, handle: u16, bell: Bell) -> Reply
+    ensures { let s = held hub.entry in
+        result ≡ reply_to (subscribed_told s who handle (bit_of bell)) }
 {
-    let a = attribute_server::subscription::should_notify(list, store, row, tables, who, handle);
-    answer::reply(a)
-}
-
-// To indications.
-pub fn should_indicate(
-    list: &[Record],
-    store: &[u8],
-    row: &[SlotBytes],
-    tables: &[Table],
-    who: Identity,
-    handle: u16,
-) -> Reply
-    ensures { let s = lent list.now store.now row.now tables.now in
-        result ≡ reply_to (subscribed_told s who handle 2) }
-{
-    let a = attribute_server::subscription::should_indicate(list, store, row, tables, who, handle);
-    answer::reply(a)
+    Reply::from(attribute_server::subscription::should(hub, who, handle, bell))
 }

@@ -2,30 +2,24 @@
 ghost use Rattle.std.specs.Prelude.{◌≡◌};
 ghost use Rattle.table_view.specs.Read.{raw_told};
 ghost use Rattle.state.specs.State.{lent};
+ghost use Rattle.state.specs.Lent.{held};
 ghost use Rattle.attribute_server.specs.Table.{fetched_told, restored_told, restored_left};
 ghost use Rattle.numbers.specs.Reply.{reply_to};
 ghost use Rattle.edge.specs.Served.{Delivered};
 
+use numbers::Reply;
 use numbers::answer::refused;
-use numbers::{Reply, answer};
 use peers::Identity;
-use table_view::Got;
+use state::Lent;
+use table_view::NotATable;
 use wire::sizes::{Record, SlotBytes, Table};
 
 // Copies the table of the peer's slot out.
-pub fn get_client_att_table(
-    list: &[Record],
-    store: &[u8],
-    row: &[SlotBytes],
-    tables: &[Table],
-    who: Identity,
-    out: &mut Table,
-) -> Reply
-    ensures { let s = lent list.now store.now row.now tables.now in
+pub fn get_client_att_table(hub: Lent, who: Identity, out: &mut Table) -> Reply
+    ensures { let s = held hub.entry in
         Delivered out.old out.new result (fetched_told s who) }
 {
-    let a = attribute_server::table::get_client_att_table(list, store, row, tables, who, out);
-    answer::reply(a)
+    Reply::from(attribute_server::table::get_client_att_table(hub, who, out))
 }
 
 // Puts a saved table's values into the peer's slot.
@@ -41,30 +35,19 @@ pub fn set_client_att_table(
         (result ≡ reply_to (restored_told s who saved.now))
         × (lent list.now store.now row.now tables.new ≡ restored_left s who saved.now) }
 {
-    let a = attribute_server::table::set_client_att_table(list, store, row, tables, who, saved);
-    answer::reply(a)
+    Reply::from(attribute_server::table::set_client_att_table(list, store, row, tables, who, saved))
 }
 
-// How many of these bytes are the saved table: it stands at their start, and what follows is not the table's. A table has
-// an end, so that `raw` never answers that there is none.
+// How many of these bytes are the saved table: it stands at their start, and what follows is not the table's.
 pub fn saved_length(saved: &[u8]) -> Reply
     ensures { result ≡ reply_to (raw_told saved.now) }
 {
-    let g = table_view::raw(saved);
-    match g {
-        Got::Value(s) => {
-            let kept = table_view::part(saved, s);
-            Reply {
-                status: 2,
-                code: 0,
-                len: kept.len(),
-            }
-        }
-        Got::NotFound => Reply {
-            status: 1,
+    match table_view::raw(saved) {
+        Ok(s) => Reply {
+            status: 2,
             code: 0,
-            len: 0,
+            len: table_view::part(saved, s).len(),
         },
-        Got::Refused => refused(4),
+        Err(NotATable) => refused(4),
     }
 }

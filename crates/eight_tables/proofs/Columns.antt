@@ -7,16 +7,15 @@ use mathlib.Core.Path.{◌≡◌, refl, sym, ap, ◌∙◌}
 use mathlib.Core.Bool.{Bool, true, false}
 use mathlib.Core.List.{List, [], ◌∷◌}
 use mathlib.Core.Logic.{◌⊎◌, ⊎_elim}
-use lib.Bits.{bit_or}
+use lib.Bits.{bit_or, bit_xor, xor_add_and, xor_self, and_le_l, and_le_r}
 use lib.ListN.{length, get_or, take, drop, length-take, drop_of_length-le}
 use lib.Seq.{ext_get_or, get_or-take, drop-cons}
 use lib.Dec.{eqb}
-use borrow.Author.Tests.{eqb-true, eq-eqb}
-use Rattle.wire.specs.Size.{slot_count}
+use borrow.Author.Tests.{eqb-true, eqb-false, eq-eqb, ne_eqb}
 use Rattle.wire.specs.Test.{both}
 use Rattle.wire.specs.Bytes.{alike}
 use Rattle.wire.proofs.Tests.{both_l, both_r, both_true, same_test, split}
-use Rattle.wire.proofs.Fold.{or_none, turn, end, alike_self}
+use Rattle.wire.proofs.Fold.{turn, end, alike_self}
 use Rattle.eight_tables.specs.Tables.{every, agrees}
 
 -- a test of every table is one of each
@@ -46,36 +45,21 @@ every_both p q ts =
     (λ h. both_true _ _ (every_as (λ t. both (p t) (q t)) p ts (λ i l. both_l _ _) h) (every_as (λ t. both (p t) (q t)) q ts (λ i l. both_r _ _) h))
     (λ h. every_by (λ t. both (p t) (q t)) ts (λ i l. both_true _ _ (every_at p ts (both_l _ _ h) i l) (every_at q ts (both_r _ _ h) i l)))
 
--- eight tables, one after the other
-pub eight : (p : List ℕ → Bool) (ts : List (List ℕ)) → length ts ≡ slot_count → both (both (both (both (both (both (both (p (get_or ts 0 [])) (p (get_or ts 1 []))) (p (get_or ts 2 []))) (p (get_or ts 3 []))) (p (get_or ts 4 []))) (p (get_or ts 5 []))) (p (get_or ts 6 []))) (p (get_or ts 7 [])) ≡ every p ts
-eight p ts e =
-    same_test _ _
-    (λ h. every_by p ts (λ i l. by h i (omega arith)))
-    (λ h. both_true _ _ (both_true _ _ (both_true _ _ (both_true _ _ (both_true _ _ (both_true _ _ (both_true _ _ (at h 0 (omega arith)) (at h 1 (omega arith))) (at h 2 (omega arith))) (at h 3 (omega arith))) (at h 4 (omega arith))) (at h 5 (omega arith))) (at h 6 (omega arith))) (at h 7 (omega arith)))
-  where
-    at : every p ts ≡ true → (i : ℕ) → i < slot_count → p (get_or ts i []) ≡ true
-    at h i l = every_at p ts h i (omega arith)
+-- a byte and another are the same where what they differ in is 0
+differs : (a b : ℕ) (t : Bool) → eqb a b ≡ t → eqb (bit_xor a b) 0 ≡ t
+differs a b true p = eq-eqb (bit_xor a b) 0 (rw (eqb-true a b p) (xor_self b))
+differs a b false p = ne_eqb (bit_xor a b) 0 (λ e. eqb-false a b p (omega (arith, xor_add_and a b, and_le_l a b, and_le_r a b)))
 
-    by : both (both (both (both (both (both (both (p (get_or ts 0 [])) (p (get_or ts 1 []))) (p (get_or ts 2 []))) (p (get_or ts 3 []))) (p (get_or ts 4 []))) (p (get_or ts 5 []))) (p (get_or ts 6 []))) (p (get_or ts 7 [])) ≡ true → (i : ℕ) → i < slot_count → p (get_or ts i []) ≡ true
-    by h zero l = both_l _ _ (both_l _ _ (both_l _ _ (both_l _ _ (both_l _ _ (both_l _ _ (both_l _ _ h))))))
-    by h (suc zero) l = both_r _ _ (both_l _ _ (both_l _ _ (both_l _ _ (both_l _ _ (both_l _ _ (both_l _ _ h))))))
-    by h (suc (suc zero)) l = both_r _ _ (both_l _ _ (both_l _ _ (both_l _ _ (both_l _ _ (both_l _ _ h)))))
-    by h (suc (suc (suc zero))) l = both_r _ _ (both_l _ _ (both_l _ _ (both_l _ _ (both_l _ _ h))))
-    by h (suc (suc (suc (suc zero)))) l = both_r _ _ (both_l _ _ (both_l _ _ (both_l _ _ h)))
-    by h (suc (suc (suc (suc (suc zero))))) l = both_r _ _ (both_l _ _ (both_l _ _ h))
-    by h (suc (suc (suc (suc (suc (suc zero)))))) l = both_r _ _ (both_l _ _ h)
-    by h (suc (suc (suc (suc (suc (suc (suc zero))))))) l = both_r _ _ h
-    by h (suc (suc (suc (suc (suc (suc (suc (suc i)))))))) l = absurd (omega arith)
+-- a turn of the loop over one column: the fold so far and the test of the tables that are left are the test of all
+module _ (j f : ℕ) (ts : List (List ℕ)) (acc k : ℕ) (all : Bool) (inv : both (eqb acc 0) (every (λ t. eqb (get_or t j 0) f) (drop k ts)) ≡ all) where
+  pub table_turn : k < length ts → both (eqb (bit_or acc (bit_xor (get_or (get_or ts k []) j 0) f)) 0) (every (λ t. eqb (get_or t j 0) f) (drop (k + 1) ts)) ≡ all
+  unfolding every
+  table_turn h =
+      turn acc _ _ _ all (differs (get_or (get_or ts k []) j 0) f _ refl) (rw add-one (rw (drop-cons ts k [] h) at inv))
 
-pub eight_by : (p : List ℕ → Bool) (ts : List (List ℕ)) → length ts ≡ slot_count → p (get_or ts 0 []) ≡ true → p (get_or ts 1 []) ≡ true → p (get_or ts 2 []) ≡ true → p (get_or ts 3 []) ≡ true → p (get_or ts 4 []) ≡ true → p (get_or ts 5 []) ≡ true → p (get_or ts 6 []) ≡ true → p (get_or ts 7 []) ≡ true → every p ts ≡ true
-eight_by p ts n a b c d e f g h =
-    sym (eight p ts n)
-    ∙ both_true _ _ (both_true _ _ (both_true _ _ (both_true _ _ (both_true _ _ (both_true _ _ (both_true _ _ a b) c) d) e) f) g) h
-
--- and what a fold over a column of them comes to
-pub folded : (p : List ℕ → Bool) (ts : List (List ℕ)) → length ts ≡ slot_count → (a b c d e f g h : ℕ) → eqb a 0 ≡ p (get_or ts 0 []) → eqb b 0 ≡ p (get_or ts 1 []) → eqb c 0 ≡ p (get_or ts 2 []) → eqb d 0 ≡ p (get_or ts 3 []) → eqb e 0 ≡ p (get_or ts 4 []) → eqb f 0 ≡ p (get_or ts 5 []) → eqb g 0 ≡ p (get_or ts 6 []) → eqb h 0 ≡ p (get_or ts 7 []) → eqb (bit_or (bit_or (bit_or (bit_or (bit_or (bit_or (bit_or a b) c) d) e) f) g) h) 0 ≡ every p ts
-folded p ts n a b c d e f g h pa pb pc pd pe pf pg ph =
-    simp or_none (rw (pa, pb, pc, pd, pe, pf, pg, ph) (eight p ts n))
+  pub table_end : length ts ≤ k → eqb acc 0 ≡ all
+  unfolding every
+  table_end h = end (eqb acc 0) all (rw (drop_of_length-le ts h) at inv)
 
 -- a walk over the tables
 module _ (p : List ℕ → Bool) (ts : List (List ℕ)) (i : ℕ) (all : Bool) (inv : every p (drop i ts) ≡ all) where
@@ -122,10 +106,6 @@ front_of fresh t n a b h =
 pub inside : (f : List ℕ) (n j m i : ℕ) (ts : List (List ℕ)) → j ≤ i → i + m ≤ j + n → every (agrees f n j) ts ≡ true → every (agrees f m i) ts ≡ true
 inside f n j m i ts a b h =
     every_as (agrees f n j) (agrees f m i) ts (λ k l e. agrees_by f m i _ (λ x p q. agrees_at f n j _ e x (omega arith) (omega arith))) h
-
--- a front is the part from place 0 on
-pub whole : (f : List ℕ) (n : ℕ) (ts : List (List ℕ)) → every (agrees f (n - 0) 0) ts ≡ every (agrees f n 0) ts
-whole f n ts = let z : n - 0 ≡ n = omega arith in rw z
 
 -- so a part that does not agree decides; and where it does, another that covers the rest
 module _ (f : List ℕ) (n j m i : ℕ) (ts : List (List ℕ)) where

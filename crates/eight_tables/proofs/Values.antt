@@ -60,9 +60,6 @@ module _ (fresh : List ℕ) (ts : List (List ℕ)) (lf : length fresh ≡ table_
       (λ i l. within fresh (get_or ts i []) (index i l) ok p h v)
 
 -- the walk over the values
-pub first_value : (ts : List (List ℕ)) (n m : ℕ) → n ≡ m → every (λ t. values_ok t (n - 0) 0) ts ≡ every (λ t. values_ok t m 0) ts
-first_value ts n m e = let z : n - 0 ≡ m = omega arith in rw z
-
 module _ (ts : List (List ℕ)) (n i : ℕ) (all : Bool) (inv : every (λ t. values_ok t (n - i) i) ts ≡ all) where
   one_value : i < n → both (every (λ t. value_ok t i) ts) (every (λ t. values_ok t (n - (i + 1)) (i + 1)) ts) ≡ all
   unfolding values_ok

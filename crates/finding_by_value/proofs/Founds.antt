@@ -3,7 +3,7 @@
 use mathlib.Core.Path.{◌≡◌, refl, sym, ap, ◌∙◌}
 use mathlib.Core.Bool.{Bool, true, false}
 use mathlib.Core.List.{List, [], ◌∷◌, ◌++◌}
-use Prim.Native.Nat.{ℕ, ◌+◌, ◌-◌, ◌≤◌, ◌<◌}
+use Prim.Native.Nat.{ℕ, ◌+◌, ◌-◌, ◌/◌, ◌%◌, ◌≤◌, ◌<◌}
 use native.Mathlib.Omega.{arith}
 use lib.ListN.{length, get_or, set, take, drop, length-set}
 use lib.Seq.{set-set}
@@ -11,6 +11,7 @@ use borrow.Author.Tests.{lt-ltb, le-ltb}
 use Rattle.wire.specs.Test.{both}
 use Rattle.wire.specs.Bytes.{alike}
 use Rattle.wire.specs.Number.{word_bytes}
+use Rattle.wire.specs.declared.att.AttError.TheVariants.{AttributeNotFound}
 use Rattle.wire.specs.Cursor.{put, moved, Wrote}
 use Rattle.wire.specs.declared.cursor.WriteCursor.{WriteCursor}
 use Rattle.wire.proofs.Tests.{both_false_l}
@@ -51,10 +52,11 @@ in_store list store i a ok l e h =
     let s = shared list (length store) ok i l (rw e at h) in
     rw e (omega (arith, s.inside, s.len))
 
--- the test of a type and a value, where the first passes
-pub both_of : (a b r : Bool) → a ≡ true → r ≡ b → r ≡ both a b
-unfolding both
-both_of a b r h e = rw h e
+-- a short type's two bytes, as `to_le_bytes` gives them
+pub type_bytes : (n : ℕ) (t : List ℕ) → n < 65536 → t ≡ n % 256 ∷ n / 256 % 256 ∷ [] → t ≡ word_bytes n
+type_bytes n t l e =
+    let h : n / 256 % 256 ≡ n / 256 = omega arith in
+    e ∙ rw h
 
 -- the ways of a row
 module _ (r : List ℕ) (rs : List (List ℕ)) (room : ℕ) where
@@ -149,7 +151,7 @@ module _ (old o₁ o₂ : List ℕ) (c₀ c₁ c₂ : WriteCursor) (start : ℕ)
       (some_rows start (rows (length old - 1)) (λ (n : length (rows (length old - 1)) ≡ 0). h (omega (arith, size))))
 
   -- no row was written: the error takes the opcode's place
-  pub error_sent : c₂.len ≡ 1 → (o₃ : List ℕ) (n : ℕ) → Sent o₂ o₃ n (error_rsp 0x06 start 0x0A) → Sent old o₃ n (found_rsp start (rows (length old - 1)))
+  pub error_sent : c₂.len ≡ 1 → (o₃ : List ℕ) (n : ℕ) → Sent o₂ o₃ n (error_rsp 0x06 start AttributeNotFound) → Sent old o₃ n (found_rsp start (rows (length old - 1)))
   unfolding found_rsp error_rsp
   error_sent h o₃ n s =
       let q : rows (length old - 1) ≡ [] = no_rows (rows (length old - 1)) (omega (arith, size)) in

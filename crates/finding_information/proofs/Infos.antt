@@ -1,4 +1,5 @@
 -- Find Information: the ways of a row, and the whole answer by where the first entry of the range is. Assumes nothing.
+use Rattle.std.specs.Prelude.{Some, None}
 use mathlib.Core.Path.{◌≡◌, refl, sym, ap, ◌∙◌}
 use mathlib.Core.Bool.{Bool, true, false, cond}
 use mathlib.Core.List.{List, [], ◌∷◌, ◌++◌}
@@ -10,11 +11,11 @@ use lib.Seq.{drop-cons}
 use lib.Dec.{eqb}
 use borrow.Author.Tests.{le-leb, lt-leb, eq-eqb, ne_eqb}
 use Rattle.wire.specs.Size.{record_bytes}
+use Rattle.wire.specs.declared.att.AttError.TheVariants.{AttributeNotFound}
 use Rattle.wire.specs.Test.{both}
 use Rattle.wire.specs.Number.{word_bytes}
 use Rattle.wire.specs.Walk.{place_from}
 use Rattle.wire.specs.Cursor.{put, moved, Wrote}
-use Rattle.wire.specs.declared.Found.TheVariants.{At, Nothing}
 use Rattle.wire.specs.declared.cursor.WriteCursor.{WriteCursor}
 use Rattle.wire.proofs.Walk.{placed}
 use Rattle.wire.proofs.Written.{wrote_then, wrote_length, wrote_next}
@@ -73,7 +74,7 @@ module _ (size : ℕ) (want : Entry → Bool) (r : List ℕ) (es : List Entry) (
 
 -- the whole answer
 module _ (want : Entry → Bool) (list : List (List ℕ)) (start room : ℕ) where
-  pub none_found : place_from (recorded want) list 0 ≡ Nothing → error_rsp 0x04 start 0x0A ≡ info_from want start room (from_first want (entries_of list))
+  pub none_found : place_from (recorded want) list 0 ≡ None → error_rsp 0x04 start AttributeNotFound ≡ info_from want start room (from_first want (entries_of list))
   unfolding info_from
   none_found e = rw (from_map entry_of want list, starts_nowhere (recorded want) [] list e)
 
@@ -84,7 +85,7 @@ module _ (want : Entry → Bool) (list : List (List ℕ)) (start room : ℕ) whe
       rw e
       (ap (λ (l : List ℕ). 0x05 ∷ cond (eqb (length (entry_of r).uuid) 2) 1 2 ∷ l) (sym (run_map entry_of (info_turn want (length (entry_of r).uuid)) (r ∷ rs) room)))
 
-  pub first_found : (i size : ℕ) → place_from (recorded want) list 0 ≡ At i → size ≡ length (uuid_of (get_or list i []))
+  pub first_found : (i size : ℕ) → place_from (recorded want) list 0 ≡ Some i → size ≡ length (uuid_of (get_or list i []))
       → 0x05 ∷ cond (eqb size 2) 1 2 ∷ run (info_at want size) (drop i list) room ≡ info_from want start room (from_first want (entries_of list))
   first_found i size e q =
       let w = placed (recorded want) [] list 0 i e in

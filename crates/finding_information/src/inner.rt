@@ -10,6 +10,7 @@ ghost use Rattle.finding_information.specs.Turns.{info_at};
 
 use attribute_walk::Stretch;
 use model::Range;
+use wire::att::AttError;
 use wire::cursor::WriteCursor;
 use wire::sizes::Record;
 
@@ -31,25 +32,25 @@ fn info_row(list: &[Record], size: usize, i: usize, out: &mut [u8], c: WriteCurs
 }
 
 // The rows of a stretch.
+// By hand: one loop over closures for the three list answers would have to say by `step` what a row leaves in `out`,
+// that it may be called again with that, and that an entry without a row does not end the list. That is longer than the
+// loop.
 fn put_infos(
     list: &[Record],
     p: Stretch,
     size: usize,
     out: &mut [u8],
-    c: WriteCursor,
+    mut c: WriteCursor,
 ) -> WriteCursor
     requires { (p.from ≤ p.to) × (p.to ≤ length list.now) × (c.len ≤ length out.old) × (size ≤ 32) }
     ensures { Listed (λ want. info_at want size) any_record list.now p out.old out.new c result }
 {
-    let mut c = c;
-    let mut i = p.from;
-    while i < p.to {
+    for i in p.from..p.to {
         let before = c.len;
         c = info_row(list, size, i, out, c);
         if c.len <= before {
             return c;
         }
-        i += 1;
     }
     c
 }
@@ -67,11 +68,11 @@ pub fn find_information(list: &[Record], g: Range, out: &mut [u8]) -> usize
     ensures { Sent out.old out.new result (info_rsp g (length out.old) (entries_of list.now)) }
 {
     if response::range::is_bad(g) {
-        return response::inner::error_response(out, 0x08, g.start, 0x01);
+        return response::inner::error_response(out, 0x08, g.start, AttError::InvalidHandle);
     }
     let p = attribute_walk::walk::stretch(list, g.start, g.end);
     if p.to <= p.from {
-        return response::inner::error_response(out, 0x04, g.start, 0x0A);
+        return response::inner::error_response(out, 0x04, g.start, AttError::AttributeNotFound);
     }
     let first = p.from;
     let size = attribute::inner::uuid(&list[first]).len();

@@ -5,12 +5,22 @@
 pub mod say;
 
 use attribute::Link;
-use model::{Answer, Ask, Range, Request};
+use lines::say::{line, say};
+use model::{Answer, Ask, CallError, Range, Request};
 use peers::Identity;
-use say::{line, say, say_answer};
+use say::say_answer;
 use state::Prepared;
 use std::io;
-use wire::sizes::{Record, SLOT_SIZE, SlotBytes, TABLE_SIZE, Table, VALUE_SIZE};
+use wire::sizes::{Record, SLOT_SIZE, SLOTS, SlotBytes, TABLE_SIZE, Table, VALUE_SIZE};
+
+// What the hub lends.
+#[derive(Clone, Copy)]
+struct Hub {
+    list: [Record; 3],
+    store: [u8; 60],
+    row: [SlotBytes; SLOTS],
+    tables: [Table; SLOTS],
+}
 
 // A record of the list: a readable variable value of type 7 with room for 20 bytes.
 fn entry(handle: u8, start: u8, len: u8) -> Record {
@@ -20,66 +30,71 @@ fn entry(handle: u8, start: u8, len: u8) -> Record {
     ]
 }
 
-fn class() -> [Record; 3] {
-    [entry(1, 0, 5), entry(2, 20, 5), entry(3, 40, 6)]
-}
-
-fn values() -> [u8; 60] {
-    *b"AAAAA...............BBBBB...............CCCCCC.............."
-}
-
 fn tablet(n: u8) -> Identity {
     let addr = [n, 0, 0, 0, 0, 0xC0];
     Identity { kind: 0, addr }
 }
 
-// Opens the hub; what it answers is seen in what it says next.
-fn open(row: &mut [SlotBytes; 8], tables: &mut [Table; 8]) {
-    let list = class();
-    let store = values();
-    state::new(&list, &store, row, tables);
-}
+impl Hub {
+    // Opens it; what that answers is seen in what it says next.
+    fn open() -> Hub {
+        let mut hub = Hub {
+            list: [entry(1, 0, 5), entry(2, 20, 5), entry(3, 40, 6)],
+            store: *b"AAAAA...............BBBBB...............CCCCCC..............",
+            row: [[0; SLOT_SIZE]; SLOTS],
+            tables: [[0; TABLE_SIZE]; SLOTS],
+        };
+        let _ = state::new(&hub.list, &hub.store, &mut hub.row, &mut hub.tables);
+        hub
+    }
 
-// A request of tablet 1 over a plain link.
-fn process(
-    row: &[SlotBytes; 8],
-    tables: &mut [Table; 8],
-    rq: Request,
-    d: &[u8],
-    out: &mut [u8],
-) -> Answer {
-    let mut list = class();
-    let mut store = values();
-    let p = Prepared {
-        handle: 0,
-        offset: 0,
-        len: 0,
-    };
-    let mut bytes = [0u8; VALUE_SIZE];
-    let r = attribute_server::request::process(
-        &mut list,
-        &mut store,
-        row,
-        tables,
-        tablet(1),
-        Link::Plain,
-        p,
-        &mut bytes,
-        rq,
-        d,
-        out,
-    );
-    r.answer
+    // A request of tablet 1 over a plain link.
+    fn process(&mut self, rq: Request, d: &[u8], out: &mut [u8]) -> Result<Answer, CallError> {
+        let mut bytes = [0; VALUE_SIZE];
+        let done = attribute_server::request::process(
+            &mut self.list,
+            &mut self.store,
+            &self.row,
+            &mut self.tables,
+            tablet(1),
+            Link::Plain,
+            Prepared::default(),
+            &mut bytes,
+            rq,
+            d,
+            out,
+        );
+        done.answer
+    }
+
+    fn connect(&mut self, n: u8) -> Result<Answer, CallError> {
+        attribute_server::connection::connect(
+            &self.list,
+            &self.store,
+            &mut self.row,
+            &mut self.tables,
+            tablet(n),
+        )
+    }
+
+    fn leave_bonded(&mut self, n: u8) {
+        let _ = attribute_server::connection::disconnect(
+            &self.list,
+            &self.store,
+            &mut self.row,
+            &mut self.tables,
+            tablet(n),
+            true,
+        );
+    }
 }
 
 // What it is answered, with a buffer of that length.
 fn say_request<R: Print>(rt: &R, rq: Request, d: &[u8], out: &mut [u8]) -> io::Result<()> {
-    let mut row = [[0u8; SLOT_SIZE]; 8];
-    let mut tables = [[0u8; TABLE_SIZE]; 8];
-    open(&mut row, &mut tables);
-    let a = process(&row, &mut tables, rq, d, out);
+    let mut hub = Hub::open();
+    let a = hub.process(rq, d, out);
     say_answer(rt, out, a)?;
-    line(rt)
+    line(rt, b"")
 }
 
 fn error_facts<R: Print>(rt: &R) -> io::Result<()> {
@@ -122,66 +137,24 @@ pub fn request_facts<R: Print>(rt: &R) -> io::Result<()> {
     list_facts(rt)
 }
 
-fn connect(row: &mut [SlotBytes; 8], tables: &mut [Table; 8], n: u8) -> Answer {
-    let list = class();
-    let store = values();
-    attribute_server::connection::connect(&list, &store, row, tables, tablet(n))
-}
-
-fn leave_bonded(row: &mut [SlotBytes; 8], tables: &mut [Table; 8], n: u8) {
-    let list = class();
-    let store = values();
-    attribute_server::connection::disconnect(&list, &store, row, tables, tablet(n), true);
-}
-
-// Tablets connect, one after another: two, and eight of them.
-fn connect_two(row: &mut [SlotBytes; 8], tables: &mut [Table; 8], n: u8, m: u8) {
-    connect(row, tables, n);
-    connect(row, tables, m);
-}
-
-fn connect_eight(row: &mut [SlotBytes; 8], tables: &mut [Table; 8]) {
-    connect_two(row, tables, 1, 2);
-    connect_two(row, tables, 3, 4);
-    connect_two(row, tables, 5, 6);
-    connect_two(row, tables, 7, 8);
-}
-
 // What the ninth tablet is answered.
-fn say_ninth<R: Print>(
-    rt: &R,
-    row: &mut [SlotBytes; 8],
-    tables: &mut [Table; 8],
-) -> io::Result<()> {
-    let a = connect(row, tables, 9);
+fn say_ninth<R: Print>(rt: &R, hub: &mut Hub) -> io::Result<()> {
+    let a = hub.connect(9);
     say_answer(rt, b"", a)
 }
 
-// A ninth tablet, and again once one of the eight is gone.
-fn say_slots<R: Print>(
-    rt: &R,
-    row: &mut [SlotBytes; 8],
-    tables: &mut [Table; 8],
-) -> io::Result<()> {
-    say(rt, b"Ninth connected tablet: ")?;
-    say_ninth(rt, row, tables)?;
-    leave_bonded(row, tables, 3);
-    say(rt, b"; with tablet 3 gone and bonded: ")?;
-    say_ninth(rt, row, tables)
-}
-
-fn say_third<R: Print>(rt: &R, row: &[SlotBytes; 8]) -> io::Result<()> {
-    say(rt, b", the third slot is tablet ")?;
-    let third = row[2];
-    lines::say::hex(rt, &[third[1]])?;
-    line(rt)
-}
-
+// Eight tablets connect, one after another; then a ninth, and again once one of the eight is gone.
 pub fn slot_facts<R: Print>(rt: &R) -> io::Result<()> {
-    let mut row = [[0u8; SLOT_SIZE]; 8];
-    let mut tables = [[0u8; TABLE_SIZE]; 8];
-    open(&mut row, &mut tables);
-    connect_eight(&mut row, &mut tables);
-    say_slots(rt, &mut row, &mut tables)?;
-    say_third(rt, &row)
+    let mut hub = Hub::open();
+    for n in 1..=8 {
+        let _ = hub.connect(n);
+    }
+    say(rt, b"Ninth connected tablet: ")?;
+    say_ninth(rt, &mut hub)?;
+    hub.leave_bonded(3);
+    say(rt, b"; with tablet 3 gone and bonded: ")?;
+    say_ninth(rt, &mut hub)?;
+    say(rt, b", the third slot is tablet ")?;
+    lines::say::hex(rt, &[hub.row[2][1]])?;
+    line(rt, b"")
 }

@@ -1,2 +1,2 @@
-pub mod Loading
 pub mod Memory
+pub mod Numbers

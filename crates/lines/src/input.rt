@@ -1,103 +1,74 @@
 // Lines of standard input.
+ghost use Rattle.std.specs.Prelude.{◌≤◌};
+
 use std::io;
 use std::io::Read;
 
-// How much of the chunk that was read last has been handed out, and where what was read ends.
-#[derive(Clone, Copy)]
+// The chunk of the input that was read last, how much of it has been handed out, and where what was read ends.
+#[derive(Drop)]
 pub struct Feed {
-    pub at: usize,
-    pub end: usize,
+    chunk: [u8; 65536],
+    at: usize,
+    end: usize,
+    ghost inside: { end ≤ 65536 },
 }
 
-// The next byte of the input, if there is one.
+// A line with more bytes than there is room for.
 #[derive(Clone, Copy)]
-struct Step {
-    feed: Feed,
-    got: bool,
-    byte: u8,
-}
+pub struct TooLong;
 
-// A line was read: how many bytes it has, or one more than there is room for, and whether the input ended with it.
-#[derive(Clone, Copy)]
-pub struct Line {
-    pub feed: Feed,
-    pub len: usize,
-    pub last: bool,
-}
-
-// Nothing is read yet.
-pub fn start() -> Feed {
-    Feed { at: 0, end: 0 }
-}
-
-fn refill<R: Input>(rt: &R, chunk: &mut [u8]) -> io::Result<Step> {
-    let n = rt.reader().read(chunk)?;
-    if n == 0 {
-        return Ok(Step {
-            feed: start(),
-            got: false,
-            byte: 0,
-        });
-    }
-    Ok(Step {
-        feed: Feed { at: 1, end: n },
-        got: true,
-        byte: chunk[0],
-    })
-}
-
-fn take<R: Input>(rt: &R, f: Feed, chunk: &mut [u8]) -> io::Result<Step> {
-    let at = f.at;
-    if f.end <= at {
-        return refill(rt, chunk);
-    }
-    if chunk.len() <= at {
-        return refill(rt, chunk);
-    }
-    Ok(Step {
-        feed: Feed {
-            at: at + 1,
-            end: f.end,
-        },
-        got: true,
-        byte: chunk[at],
-    })
-}
-
-// Puts a byte at place n of the line, if it has room, and answers the next place. Past the line's end the place stays.
-fn put(line: &mut [u8], n: usize, b: u8) -> usize {
-    if n < line.len() {
-        line[n] = b;
-        return n + 1;
-    }
-    line.len() + 1
-}
-
-// Reads up to the next line's end. Nothing says that the input has one, so the loop counts down from a number that no
-// run uses up.
-pub fn next<R: Input>(rt: &R, feed: Feed, chunk: &mut [u8], line: &mut [u8]) -> io::Result<Line> {
-    let mut f = feed;
-    let mut n = 0;
-    let mut turns = u64::MAX;
-    while turns > 0 {
-        let s = take(rt, f, chunk)?;
-        f = s.feed;
-        if !s.got {
-            break;
+impl Feed {
+    // Nothing is read yet.
+    pub fn new() -> Feed {
+        Feed {
+            chunk: [0; 65536],
+            at: 0,
+            end: 0,
         }
-        if s.byte == b'\n' {
-            return Ok(Line {
-                feed: f,
-                len: n,
-                last: false,
-            });
-        }
-        n = put(line, n, s.byte);
-        turns -= 1;
     }
-    Ok(Line {
-        feed: f,
-        len: n,
-        last: true,
-    })
+
+    // The next byte of the input, if there is one.
+    fn byte<R: Input>(&mut self, rt: &R) -> io::Result<Option<u8>> {
+        if self.end <= self.at {
+            self.end = rt.reader().read(&mut self.chunk)?;
+            self.at = 0;
+        }
+        if self.end <= self.at {
+            return Ok(None);
+        }
+        let b = self.chunk[self.at];
+        self.at += 1;
+        Ok(Some(b))
+    }
+
+    // Reads up to the next line's end, and answers how many bytes of `line` it has; none where the input has ended.
+    // Nothing says that the input has a line's end, so the loop has a number of turns that no run uses up.
+    pub fn next<R: Input>(
+        &mut self,
+        rt: &R,
+        line: &mut [u8],
+    ) -> io::Result<Option<Result<usize, TooLong>>> {
+        let mut n = Ok(0);
+        for _ in 0..u64::MAX {
+            match self.byte(rt)? {
+                Some(b'\n') => return Ok(Some(n)),
+                Some(b) => n = put(line, n, b),
+                None => break,
+            }
+        }
+        match n {
+            Ok(0) => Ok(None),
+            _ => Ok(Some(n)),
+        }
+    }
+}
+
+// Puts a byte at place n of the line, if it has room, and answers the next place.
+fn put(line: &mut [u8], n: Result<usize, TooLong>, b: u8) -> Result<usize, TooLong> {
+    let at = n?;
+    if line.len() <= at {
+        return Err(TooLong);
+    }
+    line[at] = b;
+    Ok(at + 1)
 }

@@ -1,106 +1,53 @@
 // Numbers and bytes in hex, as words of a line. Capitals or not, both are read.
-ghost use Rattle.std.specs.Prelude.{◌≤◌};
-
 use crate::words;
 
-// What is no number, or no bytes. Above everything that is asked for.
-pub const NONE: usize = 0xFFFF_FFFF_FFFF;
-
-// A digit's value, 16 for what is none.
-fn digit(c: u8) -> usize
-    ensures { result ≤ 16 }
-{
-    match c {
-        48..=57 => c as usize - 48,
-        65..=70 => c as usize - 55,
-        97..=102 => c as usize - 87,
-        _ => 16,
-    }
+// A digit's value, if it is one.
+fn digit(c: u8) -> Option<u32> {
+    char::from(c).to_digit(16)
 }
 
 // A number below 2^32, with any zeros in front.
-pub fn number(w: &[u8]) -> usize {
-    if w.len() == 0 {
-        return NONE;
+pub fn number(w: &[u8]) -> Option<u32> {
+    if w.is_empty() {
+        return None;
     }
-    let mut v = 0;
-    let mut i = 0;
-    while i < w.len() {
-        let d = digit(w[i]);
-        if 15 < d {
-            return NONE;
-        }
-        if 0xFFF_FFFF < v {
-            return NONE;
-        }
-        v = 16 * v + d;
-        i += 1;
+    let mut v = 0u32;
+    for c in w {
+        v = v.checked_mul(16)?.checked_add(digit(*c)?)?;
     }
-    v
+    Some(v)
 }
 
-// The byte of a pair of digits, 256 for what is none.
-fn pair(high: u8, low: u8) -> usize
-    ensures { result ≤ 256 }
-{
-    let h = digit(high);
-    let l = digit(low);
-    if 15 < h {
-        return 256;
-    }
-    if 15 < l {
-        return 256;
-    }
-    16 * h + l
-}
-
-// Pairs of digits as bytes at the start of out. Answers how many, and NONE also where out has no room for them.
-fn pairs(w: &[u8], out: &mut [u8]) -> usize {
+// Pairs of digits as bytes at the start of out, if it has room for them.
+fn pairs<'a>(w: &[u8], out: &'a mut [u8]) -> Option<&'a [u8]> {
     if w.len() % 2 == 1 {
-        return NONE;
+        return None;
     }
-    let n = w.len() / 2;
-    if out.len() < n {
-        return NONE;
+    let out = out.get_mut(..w.len() / 2)?;
+    for (b, pair) in out.iter_mut().zip(w.chunks_exact(2)) {
+        *b = u8::try_from(number(pair)?).ok()?;
     }
-    let mut i = 0;
-    while i < n {
-        let b = pair(w[2 * i], w[2 * i + 1]);
-        if 255 < b {
-            return NONE;
-        }
-        out[i] = b as u8;
-        i += 1;
-    }
-    n
+    Some(out)
 }
 
-// Bytes: pairs of digits, or `-` for none.
-pub fn bytes(w: &[u8], out: &mut [u8]) -> usize {
-    if w.len() == 0 {
-        return NONE;
+// Bytes: pairs of digits, or `-` for none. They stand at the start of out.
+pub fn bytes<'a>(w: &[u8], out: &'a mut [u8]) -> Option<&'a [u8]> {
+    match w {
+        b"" => None,
+        b"-" => Some(&[]),
+        _ => pairs(w, out),
     }
-    if wire::bytes::same(w, b"-") {
-        return 0;
-    }
-    pairs(w, out)
 }
 
-// Word k of a line as a number.
-pub fn at(line: &[u8], k: usize) -> usize {
-    number(words::word(line, k))
+// Word k of a line as a number, if it is one and fits its type.
+pub fn at<T: TryFrom<u32>>(line: &[u8], k: usize) -> Option<T>
+where
+    T::Error: Drop,
+{
+    T::try_from(number(words::word(line, k))?).ok()
 }
 
 // Word k of a line as bytes.
-pub fn bytes_at(line: &[u8], k: usize, out: &mut [u8]) -> usize {
+pub fn bytes_at<'a>(line: &[u8], k: usize, out: &'a mut [u8]) -> Option<&'a [u8]> {
     bytes(words::word(line, k), out)
-}
-
-// The low 16 bits, and the low 8.
-pub fn low16(n: usize) -> u16 {
-    (n % 65536) as u16
-}
-
-pub fn low8(n: usize) -> u8 {
-    (n % 256) as u8
 }

@@ -1,5 +1,6 @@
 -- No answer is longer than the buffer that it is for: the definitions of the responses keep to their room, whatever the
 -- view holds, so that every length that is told was written. Assumes nothing.
+use Rattle.std.specs.Prelude.{Ok, Err}
 use mathlib.Core.Path.{◌≡◌, refl, ap}
 use mathlib.Core.Bool.{Bool, true, false, cond}
 use mathlib.Core.List.{List, [], ◌∷◌, ◌++◌}
@@ -13,8 +14,6 @@ use Rattle.wire.specs.Test.{both}
 use Rattle.wire.specs.Number.{word, word_bytes}
 use Rattle.attribute.specs.Record.{Entry, entry_of}
 use Rattle.attribute.specs.Lookup.{is_wanted, entries_of}
-use Rattle.attribute.specs.declared.Access.{Access}
-use Rattle.attribute.specs.declared.Access.TheVariants.{Granted, Denied}
 use Rattle.model.specs.Value.{Contents, Bytes, Code, read_from}
 use Rattle.model.specs.View.{View, Seen, read_at, write_at}
 use Rattle.model.specs.Run.{Chunk, stop, skip, emit, run}
@@ -29,6 +28,9 @@ use Rattle.model.specs.declared.Change.{Change}
 use Rattle.model.specs.declared.Change.TheVariants.{Write, WriteCommand, PrepareWrite, ExecuteWrite}
 use Rattle.model.specs.declared.Request.{Request}
 use Rattle.model.specs.declared.Request.TheVariants as request
+use Rattle.attribute.specs.Needs.{Access}
+use Rattle.wire.specs.declared.att.AttError.{AttError}
+use Rattle.wire.specs.declared.att.AttError.TheVariants.{InvalidHandle, InvalidPdu, AttributeNotFound}
 
 -- by a test, each side with what the test says
 by_test : {A : Type 0} (P : A → Type 0) (t : Bool) (x y : A) → (t ≡ true → P x) → (t ≡ false → P y) → P (cond t x y)
@@ -96,9 +98,9 @@ module _ (room : ℕ) (big : 23 ≤ room) where
   abbrev Within : List ℕ → Type 0
   Within rsp = length rsp ≤ room
 
-  error_fits : (op h code : ℕ) → Within (error_rsp op h code)
+  error_fits : (op h : ℕ) (e : AttError) → Within (error_rsp op h e)
   unfolding error_rsp
-  error_fits op h code = omega arith
+  error_fits op h e = omega arith
 
   value_fits : (rsp op h : ℕ) (c : Contents) → Within (value_rsp rsp op h room c)
   unfolding value_rsp
@@ -106,11 +108,11 @@ module _ (room : ℕ) (big : 23 ≤ room) where
   value_fits rsp op h (Code c) = error_fits op h c
 
   done_fits : (ok : List ℕ) (op h : ℕ) (a : Access) → Within ok → Within (done_rsp ok op h a)
-  done_fits ok op h Granted l = l
-  done_fits ok op h (Denied c) l = error_fits op h c
+  done_fits ok op h (Ok tt) l = l
+  done_fits ok op h (Err c) l = error_fits op h c
 
   range_fits : (g : Range) (rsp : List ℕ) → Within rsp → Within (in_range g rsp)
-  range_fits g rsp l = by_test Within (is_bad_range g) (error_rsp 0x08 g.start 0x01) rsp (λ t. error_fits 0x08 g.start 0x01) (λ t. l)
+  range_fits g rsp l = by_test Within (is_bad_range g) (error_rsp 0x08 g.start InvalidHandle) rsp (λ t. error_fits 0x08 g.start InvalidHandle) (λ t. l)
 
   module _ (f : Form) (want : Entry → Bool) where
     first_fits : (s : Seen) (l : List Seen) (c : Contents) → Within (first_rsp f want (room - 2) s l c)
@@ -122,24 +124,24 @@ module _ (room : ℕ) (big : 23 ≤ room) where
 
     list_fits : (start : ℕ) (l : List Seen) → Within (list_from f want start (room - 2) l)
     unfolding list_from
-    list_fits start [] = error_fits f.op start 0x0A
+    list_fits start [] = error_fits f.op start AttributeNotFound
     list_fits start (s ∷ l) = first_fits s l s.read
 
   info_fits : (want : Entry → Bool) (start : ℕ) (es : List Entry) → Within (info_from want start (room - 2) es)
   unfolding info_from
-  info_fits want start [] = error_fits 0x04 start 0x0A
+  info_fits want start [] = error_fits 0x04 start AttributeNotFound
   info_fits want start (e ∷ es) =
       let n = length e.uuid in
       omega (arith, run_fits (info_turn want n) (info_keeps want n) (e ∷ es) (room - 2))
 
   found_fits : (start : ℕ) (rows : List ℕ) → length rows ≤ room - 1 → Within (found_rsp start rows)
   unfolding found_rsp
-  found_fits start [] l = error_fits 0x06 start 0x0A
+  found_fits start [] l = error_fits 0x06 start AttributeNotFound
   found_fits start (b ∷ bs) l = omega arith
 
   multiple_fits : (hs : List ℕ) → Within (multiple_rsp hs)
   unfolding multiple_rsp
-  multiple_fits hs = by_test Within (ltb (length hs) 2) _ _ (λ t. error_fits 0x0E 0 0x04) (λ t. error_fits 0x0E (word hs 0) 0x0A)
+  multiple_fits hs = by_test Within (ltb (length hs) 2) _ _ (λ t. error_fits 0x0E 0 InvalidPdu) (λ t. error_fits 0x0E (word hs 0) AttributeNotFound)
 
   ask_fits : (l : List Seen) (a : Ask) (d : List ℕ) → length (ask_rsp l room a d) ≤ room
   unfolding ask_rsp

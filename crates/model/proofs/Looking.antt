@@ -1,4 +1,5 @@
 -- The view's lookup by handle is the list's. Assumes nothing.
+use Rattle.std.specs.Prelude.{Some, None}
 use mathlib.Core.Path.{◌≡◌, refl}
 use mathlib.Core.Bool.{Bool, true, false}
 use mathlib.Core.List.{List, [], ◌∷◌, map}
@@ -6,7 +7,6 @@ use Prim.Native.Nat.{ℕ, zero, suc, ◌<◌}
 use native.Mathlib.Omega.{arith}
 use lib.ListN.{length, get_or}
 use Rattle.wire.specs.First.{first}
-use Rattle.wire.specs.declared.Found.TheVariants.{At, Nothing}
 use Rattle.wire.proofs.Walk.{placed, none_passes}
 use Rattle.attribute.specs.Record.{entry_of, attribute_of}
 use Rattle.attribute.specs.Lookup.{place_of, has_handle}
@@ -31,14 +31,14 @@ module _ (link : Link) (list : List (List ℕ)) (store t : List ℕ) (h : ℕ) {
   unfolding seen_by entry_of attribute_of
   same_test r = refl
 
-  pub seen_at : (i : ℕ) → place_of list h ≡ At i → first (is_seen h) f x (seen_all link list store t) ≡ f (seen_by link store t (get_or list i []))
+  pub seen_at : (i : ℕ) → place_of list h ≡ Some i → first (is_seen h) f x (seen_all link list store t) ≡ f (seen_by link store t (get_or list i []))
   seen_at i e =
       let w = placed (has_handle h) [] list 0 i e in
       first_at (seen_by link store t) (is_seen h) f x [] list i w.inside
       (λ j b. rw (same_test (get_or list j [])) (w.first j (omega arith) b))
       (rw (same_test (get_or list i [])) w.passes)
 
-  pub seen_nowhere : place_of list h ≡ Nothing → first (is_seen h) f x (seen_all link list store t) ≡ x
+  pub seen_nowhere : place_of list h ≡ None → first (is_seen h) f x (seen_all link list store t) ≡ x
   seen_nowhere e =
       first_none (seen_by link store t) (is_seen h) f x [] list
       (λ j b. rw (same_test (get_or list j [])) (none_passes (has_handle h) [] list (length list) 0 (omega arith) e j (omega arith) b))

@@ -1,4 +1,5 @@
 -- One loop for every list answer: the laws of its invariant, and of where a list starts. Assumes nothing.
+use Rattle.std.specs.Prelude.{Some, None}
 use mathlib.Core.Path.{◌≡◌, refl, sym, ap, ◌∙◌}
 use mathlib.Core.Bool.{Bool, true, false, cond}
 use mathlib.Core.List.{List, [], ◌∷◌, ◌++◌, map, append-nil}
@@ -9,7 +10,6 @@ use lib.ListN.{length, get_or, drop, length-append, drop_of_length-le}
 use lib.Seq.{sets, drop-cons}
 use borrow.Author.Tests.{lt-ltb, le-ltb}
 use Rattle.wire.specs.Walk.{place_from}
-use Rattle.wire.specs.declared.Found.TheVariants.{At, Nothing}
 use Rattle.wire.specs.Cursor.{Wrote}
 use Rattle.wire.specs.declared.cursor.WriteCursor.{WriteCursor}
 use Rattle.wire.proofs.Sets.{sets-append}
@@ -157,12 +157,12 @@ module _ {A : Type 0} (p : A → Bool) where
   from_none d [] f = refl
   from_none d (x ∷ l) f = rw (f 0 (omega arith)) (from_none d l (λ j b. f (suc j) (omega arith)))
 
-  pub starts_at : (d : A) (l : List A) (i : ℕ) → place_from p l 0 ≡ At i → from_first p l ≡ get_or l i d ∷ drop (i + 1) l
+  pub starts_at : (d : A) (l : List A) (i : ℕ) → place_from p l 0 ≡ Some i → from_first p l ≡ get_or l i d ∷ drop (i + 1) l
   starts_at d l i h =
       let w = placed p d l 0 i h in
       from_at d l i w.inside (λ j b. w.first j (omega arith) b) w.passes ∙ rw (drop-cons l i d w.inside, add-one)
 
-  pub starts_nowhere : (d : A) (l : List A) → place_from p l 0 ≡ Nothing → from_first p l ≡ []
+  pub starts_nowhere : (d : A) (l : List A) → place_from p l 0 ≡ None → from_first p l ≡ []
   starts_nowhere d l h = from_none d l (λ j b. none_passes p d l (length l) 0 (omega arith) h j (omega arith) b)
 
 choose_map : {A B : Type 0} (g : A → B) (t : Bool) (x : A) (xs ys : List A) (zs : List B) → zs ≡ map g ys → cond t (g x ∷ map g xs) zs ≡ map g (cond t (x ∷ xs) ys)

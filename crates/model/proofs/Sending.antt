@@ -1,4 +1,5 @@
 -- Laws of responses: from what the cursor wrote to what is sent, and the range test. Assumes nothing.
+use Rattle.std.specs.Prelude.{Result, Ok}
 use mathlib.Core.Path.{◌≡◌, refl, ap, ◌∙◌}
 use mathlib.Core.Bool.{Bool, true, false}
 use mathlib.Core.List.{List, append-nil}
@@ -14,8 +15,10 @@ use Rattle.model.specs.Answer.{Sent, error_rsp, is_bad_range, in_range}
 use Rattle.model.specs.Told.{Answered, front}
 use Rattle.table_view.specs.Told.{Told, none, value}
 use Rattle.model.specs.declared.Range.{Range}
-use Rattle.model.specs.declared.Answer.{Answer}
 use Rattle.model.specs.declared.Answer.TheVariants.{Nothing, Value}
+use Rattle.model.specs.declared.Answer.{Answer}
+use Rattle.model.specs.declared.CallError.{CallError}
+use Rattle.wire.specs.declared.att.AttError.TheVariants.{InvalidHandle}
 
 pub sent : (old new rsp : List ℕ) (c next : WriteCursor) → c.len ≡ 0 → Wrote old new c next rsp → Sent old new next.len rsp
 sent old new rsp c next z w =
@@ -34,7 +37,7 @@ front-sets old rsp h =
     let l : length rsp - length (sets old 0 rsp) ≡ 0 = omega (arith, length-sets old 0 rsp) in
     rw (l, sets-eq rsp old 0 (omega arith)) (append-nil _ ∙ take-append_seam rsp _)
 
-pub answered : (old new : List ℕ) (n : ℕ) (rsp : List ℕ) → Sent old new n rsp → Answered old new (Value n) (value rsp)
+pub answered : (old new : List ℕ) (n : ℕ) (rsp : List ℕ) → Sent old new n rsp → Answered old new (Ok (Value n)) (value rsp)
 answered old new n rsp s =
     record {
       told = rw (s.size, s.bytes) (ap value (front-sets old rsp s.fits));
@@ -42,10 +45,10 @@ answered old new n rsp s =
       fits = s.fits;
     }
 
-pub answered_as : (old new : List ℕ) (r : Answer) (t u : Told) → Answered old new r t → t ≡ u → Answered old new r u
+pub answered_as : (old new : List ℕ) (r : Result Answer CallError) (t u : Told) → Answered old new r t → t ≡ u → Answered old new r u
 answered_as old new r t u h e = rw e at h
 
-pub silent : (old : List ℕ) → Answered old old Nothing none
+pub silent : (old : List ℕ) → Answered old old (Ok Nothing) none
 silent old = record { told = refl; out = refl; fits = tt }
 
 -- the range test
@@ -58,7 +61,7 @@ module _ (g : Range) where
   unfolding is_bad_range
   not_zero h = rw (ne_eqb _ _ h)
 
-  pub bad_range : (rsp : List ℕ) → is_bad_range g ≡ true → error_rsp 0x08 g.start 0x01 ≡ in_range g rsp
+  pub bad_range : (rsp : List ℕ) → is_bad_range g ≡ true → error_rsp 0x08 g.start InvalidHandle ≡ in_range g rsp
   bad_range rsp h = rw h
 
   pub good_range : (rsp : List ℕ) → is_bad_range g ≡ false → rsp ≡ in_range g rsp

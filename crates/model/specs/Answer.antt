@@ -1,6 +1,6 @@
 -- The answers to requests (document 01, "Handlers"; Core Vol 3 Part F 3.4). Each but that of Find By Type Value is a
 -- function of the view, the request, and the buffer's length. Assumes nothing.
-use Rattle.std.specs.Prelude.{ℕ, ◌+◌, ◌-◌, ◌≤◌, ◌≡◌, Bool, true, false, cond, List, [], ◌∷◌, ◌++◌, ltb, eqb, length, take}
+use Rattle.std.specs.Prelude.{ℕ, ◌+◌, ◌-◌, ◌≤◌, ◌≡◌, Bool, true, false, cond, List, [], ◌∷◌, ◌++◌, ltb, eqb, length, take, Ok, Err}
 use Rattle.std.proofs.lemmas.List.Edits.{sets}
 use Rattle.wire.specs.Size.{value_bytes}
 use Rattle.wire.specs.Test.{both}
@@ -8,8 +8,6 @@ use Rattle.wire.specs.Number.{word, word_bytes}
 use Rattle.table_view.specs.Told.{Told, none, value}
 use Rattle.attribute.specs.Record.{Entry}
 use Rattle.attribute.specs.Lookup.{is_within, is_wanted}
-use Rattle.attribute.specs.declared.Access.{Access}
-use Rattle.attribute.specs.declared.Access.TheVariants.{Granted, Denied}
 use Rattle.model.specs.Value.{Contents, Bytes, Code, read_from}
 use Rattle.model.specs.View.{View, Seen, Pending, if_met, read_at, write_at}
 use Rattle.model.specs.Run.{run, from_first}
@@ -22,10 +20,14 @@ use Rattle.model.specs.declared.Request.{Request}
 use Rattle.model.specs.declared.Request.TheVariants as request
 use Rattle.model.specs.declared.Change.{Change}
 use Rattle.model.specs.declared.Change.TheVariants.{Write, WriteCommand, PrepareWrite, ExecuteWrite}
+use Rattle.attribute.specs.Needs.{Access}
+use Rattle.wire.specs.Att.{code_of}
+use Rattle.wire.specs.declared.att.AttError.{AttError}
+use Rattle.wire.specs.declared.att.AttError.TheVariants.{InvalidHandle, InvalidPdu, InvalidOffset, PrepareQueueFull, AttributeNotFound}
 
 -- an ATT error: 0x01, the request's opcode, the handle, the code
-unfoldable pub error_rsp : ℕ → ℕ → ℕ → List ℕ
-error_rsp op h code = 0x01 ∷ op ∷ word_bytes h ++ (code ∷ [])
+unfoldable pub error_rsp : ℕ → ℕ → AttError → List ℕ
+error_rsp op h e = 0x01 ∷ op ∷ word_bytes h ++ (code_of e ∷ [])
 
 -- a value behind its opcode, cut to the room; or the error
 unfoldable pub value_rsp : ℕ → ℕ → ℕ → ℕ → Contents → List ℕ
@@ -41,7 +43,7 @@ unfoldable pub is_bad_range : Range → Bool
 is_bad_range g = cond (eqb g.start 0) true (ltb g.end g.start)
 
 abbrev pub in_range : Range → List ℕ → List ℕ
-in_range g rsp = cond (is_bad_range g) (error_rsp 0x08 g.start 0x01) rsp
+in_range g rsp = cond (is_bad_range g) (error_rsp 0x08 g.start InvalidHandle) rsp
 
 -- the two reads by type, from the first wanted entry on: its value fixes the length, its code is the answer
 unfoldable pub first_rsp : Form → (Entry → Bool) → ℕ → Seen → List Seen → Contents → List ℕ
@@ -50,7 +52,7 @@ first_rsp f want room s l (Bytes v) =
 first_rsp f want room s l (Code c) = error_rsp f.op s.entry.handle c
 
 unfoldable pub list_from : Form → (Entry → Bool) → ℕ → ℕ → List Seen → List ℕ
-list_from f want start room [] = error_rsp f.op start 0x0A
+list_from f want start room [] = error_rsp f.op start AttributeNotFound
 list_from f want start room (s ∷ l) = first_rsp f want room s l s.read
 
 abbrev pub list_rsp : Form → Range → List ℕ → ℕ → List Seen → List ℕ
@@ -60,7 +62,7 @@ list_rsp f g uuid room l =
 
 -- Find Information: format 1 for UUIDs of 2 bytes, else 2, as the first entry's
 unfoldable pub info_from : (Entry → Bool) → ℕ → ℕ → List Entry → List ℕ
-info_from want start room [] = error_rsp 0x04 start 0x0A
+info_from want start room [] = error_rsp 0x04 start AttributeNotFound
 info_from want start room (e ∷ es) =
     0x05 ∷ cond (eqb (length e.uuid) 2) 1 2 ∷ run (info_turn want (length e.uuid)) (e ∷ es) room
 
@@ -71,7 +73,7 @@ info_rsp g room es =
 
 -- Find By Type Value
 unfoldable pub found_rsp : ℕ → List ℕ → List ℕ
-found_rsp start [] = error_rsp 0x06 start 0x0A
+found_rsp start [] = error_rsp 0x06 start AttributeNotFound
 found_rsp start (b ∷ bs) = 0x07 ∷ b ∷ bs
 
 abbrev pub find_rsp : Range → ℕ → List ℕ → ℕ → List (List ℕ) → List ℕ → List ℕ
@@ -80,7 +82,7 @@ find_rsp g uuid d room list store =
 
 -- Read Multiple is not served: 0x0A at the first handle; without one, 0x04
 unfoldable pub multiple_rsp : List ℕ → List ℕ
-multiple_rsp hs = cond (ltb (length hs) 2) (error_rsp 0x0E 0 0x04) (error_rsp 0x0E (word hs 0) 0x0A)
+multiple_rsp hs = cond (ltb (length hs) 2) (error_rsp 0x0E 0 InvalidPdu) (error_rsp 0x0E (word hs 0) AttributeNotFound)
 
 unfoldable pub ask_rsp : List Seen → ℕ → Ask → List ℕ → List ℕ
 ask_rsp l room (FindInformation g) d = info_rsp g room (entries_in l)
@@ -93,13 +95,13 @@ ask_rsp l room ReadMultiple d = multiple_rsp d
 -- Prepare Write of n bytes, after len bytes for another handle and offset: handle 0; another handle than the pending
 -- one; not where the pending bytes end; over 512 bytes. A link without a prepared write takes any handle and offset
 unfoldable pub size_rule : ℕ → ℕ → Access
-size_rule len n = cond (ltb value_bytes (len + n)) (Denied 0x09) Granted
+size_rule len n = cond (ltb value_bytes (len + n)) (Err PrepareQueueFull) (Ok tt)
 
 unfoldable pub prepare_rule : ℕ → ℕ → ℕ → ℕ → ℕ → ℕ → Access
 prepare_rule handle offset len h off n =
-    cond (eqb h 0) (Denied 0x01)
+    cond (eqb h 0) (Err InvalidHandle)
     (cond (eqb handle 0) (size_rule len n)
-    (cond (eqb handle h) (cond (eqb off (offset + len)) (size_rule len n) (Denied 0x07)) (Denied 0x09)))
+    (cond (eqb handle h) (cond (eqb off (offset + len)) (size_rule len n) (Err InvalidOffset)) (Err PrepareQueueFull)))
 
 abbrev pub prepare_access : Pending → ℕ → ℕ → ℕ → Access
 prepare_access w h off n = prepare_rule w.handle w.offset (length w.bytes) h off n
@@ -111,7 +113,7 @@ is_due w flags = both (eqb flags 1) (cond (eqb w.handle 0) false true)
 unfoldable pub execute_access : View → ℕ → Access
 execute_access v flags =
     let w = v.pending in
-    cond (is_due w flags) (write_at w.handle w.offset (length w.bytes) v.attrs) Granted
+    cond (is_due w flags) (write_at w.handle w.offset (length w.bytes) v.attrs) (Ok tt)
 
 -- Prepare Write is answered by what it brought
 abbrev pub echo_rsp : ℕ → ℕ → List ℕ → List ℕ

@@ -1,18 +1,13 @@
 -- What the requests and `set` leave, in bytes (document 01, "Client table", "Attributes" and "Handlers"). Every byte
 -- that is not named stays. Assumes nothing.
-use Rattle.std.specs.Prelude.{ℕ, ◌+◌, cond, List, [], eqb, length, get_or, set}
+use Rattle.std.specs.Prelude.{ℕ, ◌+◌, cond, List, [], eqb, length, get_or, set, Option, Some, None}
 use Rattle.std.proofs.lemmas.List.Edits.{sets}
-use Rattle.wire.specs.declared.Found.{Found}
-use Rattle.wire.specs.declared.Found.TheVariants.{At, Nothing}
 use Rattle.client_att_table.specs.Write.{after_write}
 use Rattle.attribute.specs.Record.{attribute_of, with_length}
 use Rattle.attribute.specs.Lookup.{place_of}
-use Rattle.attribute.specs.Needs.{may_write}
+use Rattle.attribute.specs.Needs.{may_write, Access}
 use Rattle.attribute.specs.declared.Attribute.{Attribute}
 use Rattle.attribute.specs.declared.Link.{Link}
-use Rattle.attribute.specs.declared.Access.{Access}
-use Rattle.peers.specs.declared.Seated.{Seated}
-use Rattle.peers.specs.declared.Seated.TheVariants as seated
 use Rattle.state.specs.State.{State}
 use Rattle.state.specs.declared.Prepared.{Prepared}
 use Rattle.model.specs.Value.{write_rule}
@@ -22,6 +17,7 @@ use Rattle.model.specs.declared.Request.{Request}
 use Rattle.model.specs.declared.Request.TheVariants as request
 use Rattle.model.specs.declared.Change.{Change}
 use Rattle.model.specs.declared.Change.TheVariants.{Write, WriteCommand, PrepareWrite, ExecuteWrite}
+use Rattle.peers.specs.declared.Seat.{Seat}
 
 abbrev pub if_granted : {A : Type 0} → Access → A → A → A
 if_granted a x y = if_met a x (λ c. y)
@@ -38,12 +34,12 @@ unfoldable pub shared_store : List ℕ → Attribute → ℕ → List ℕ → Li
 shared_store store a off d = if_granted (write_rule a.len a.cap off (length d)) (sets store (a.start + off) d) store
 
 -- d at an offset of a client value, in the table of the peer's slot
-unfoldable pub own_tables : List (List ℕ) → Seated → ℕ → ℕ → List ℕ → List (List ℕ)
-own_tables ts seated.Nothing h off d = ts
-own_tables ts (seated.At k) h off d = set ts k.0 (after_write (get_or ts k.0 []) h off d)
+unfoldable pub own_tables : List (List ℕ) → Option Seat → ℕ → ℕ → List ℕ → List (List ℕ)
+own_tables ts None h off d = ts
+own_tables ts (Some k) h off d = set ts k.0 (after_write (get_or ts k.0 []) h off d)
 
 -- d at an offset of the value of the entry at place i
-unfoldable pub put_at : State → Seated → ℕ → ℕ → List ℕ → State
+unfoldable pub put_at : State → Option Seat → ℕ → ℕ → List ℕ → State
 put_at s slot i off d =
     let a = attribute_of (get_or s.list i []) in
     record {
@@ -54,15 +50,15 @@ put_at s slot i off d =
     }
 
 -- the same behind the permission test, by handle
-abbrev pub written_at : Link → State → Seated → Found → ℕ → List ℕ → State
-written_at link s slot Nothing off d = s
-written_at link s slot (At i) off d = if_granted (may_write (attribute_of (get_or s.list i [])) link) (put_at s slot i off d) s
+abbrev pub written_at : Link → State → Option Seat → Option ℕ → ℕ → List ℕ → State
+written_at link s slot None off d = s
+written_at link s slot (Some i) off d = if_granted (may_write (attribute_of (get_or s.list i [])) link) (put_at s slot i off d) s
 
-abbrev pub written : Link → State → Seated → ℕ → ℕ → List ℕ → State
+abbrev pub written : Link → State → Option Seat → ℕ → ℕ → List ℕ → State
 written link s slot h off d = written_at link s slot (place_of s.list h) off d
 
 -- the state after a request that may change something: w is what is pending, d what the request brings
-unfoldable pub state_after : Link → State → Seated → Pending → Change → List ℕ → State
+unfoldable pub state_after : Link → State → Option Seat → Pending → Change → List ℕ → State
 state_after link s slot w (Write h) d = written link s slot h 0 d
 state_after link s slot w (WriteCommand h) d = written link s slot h 0 d
 state_after link s slot w (PrepareWrite h off) d = s
@@ -93,7 +89,7 @@ data_after p bytes (PrepareWrite h off) d = if_granted (may_prepare p h off (len
 data_after p bytes (ExecuteWrite flags) d = bytes
 
 -- the same of any request: only those that may change something do
-unfoldable pub state_by : Link → State → Seated → Pending → Request → List ℕ → State
+unfoldable pub state_by : Link → State → Option Seat → Pending → Request → List ℕ → State
 state_by link s slot w (request.Ask a) d = s
 state_by link s slot w (request.FindByTypeValue g uuid) d = s
 state_by link s slot w (request.Change c) d = state_after link s slot w c d

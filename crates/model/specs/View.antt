@@ -1,19 +1,18 @@
 -- What one link can see of the hub: the list in which each value that it may not read is replaced by the code of the
 -- refusal, and its own prepared write. Answers know of no other permission test. Assumes nothing.
-use Rattle.std.specs.Prelude.{ℕ, Bool, List, [], ◌∷◌, map, eqb, take, get_or}
+use Rattle.std.specs.Prelude.{ℕ, Bool, List, [], ◌∷◌, map, eqb, take, get_or, Option, Some, None, Ok, Err}
 use Rattle.wire.specs.First.{first}
 use Rattle.attribute.specs.Record.{Entry, entry_of, attribute_of}
-use Rattle.attribute.specs.Needs.{may_read, may_write}
+use Rattle.attribute.specs.Needs.{may_read, may_write, Access}
 use Rattle.attribute.specs.declared.Link.{Link}
-use Rattle.attribute.specs.declared.Access.{Access}
-use Rattle.attribute.specs.declared.Access.TheVariants.{Granted, Denied}
 use Rattle.peers.specs.Slots.{slot_of}
-use Rattle.peers.specs.declared.Seated.{Seated}
-use Rattle.peers.specs.declared.Seated.TheVariants.{At, Nothing}
 use Rattle.peers.specs.declared.Identity.{Identity}
 use Rattle.peers.specs.declared.Slot.{Slot}
 use Rattle.state.specs.declared.Prepared.{Prepared}
 use Rattle.model.specs.Value.{Contents, Code, read_of, write_of}
+use Rattle.peers.specs.declared.Seat.{Seat}
+use Rattle.wire.specs.declared.att.AttError.{AttError}
+use Rattle.wire.specs.declared.att.AttError.TheVariants.{AttributeNotFound}
 
 -- an attribute as a link sees it: the value or a code, and what a write of so many bytes at an offset gets
 pub record Seen : Type 0 where
@@ -32,25 +31,25 @@ pub record View : Type 0 where
   pub pending : Pending
 
 -- what stands behind a permission test
-abbrev pub if_met : {A : Type 0} → Access → A → (ℕ → A) → A
-if_met Granted a f = a
-if_met (Denied c) a f = f c
+abbrev pub if_met : {A : Type 0} → Access → A → (AttError → A) → A
+if_met (Ok x) a f = a
+if_met (Err e) a f = f e
 
 unfoldable pub seen_by : Link → List ℕ → List ℕ → List ℕ → Seen
 seen_by link store table r =
     record {
       entry = entry_of r;
       read = if_met (may_read (attribute_of r) link) (read_of store table (attribute_of r)) Code;
-      write = λ off n. if_met (may_write (attribute_of r) link) (write_of store table (attribute_of r) off n) Denied;
+      write = λ off n. if_met (may_write (attribute_of r) link) (write_of store table (attribute_of r) off n) Err;
     }
 
 abbrev pub seen_all : Link → List (List ℕ) → List ℕ → List ℕ → List Seen
 seen_all link list store table = map (seen_by link store table) list
 
 -- the peer's own table: that of its slot; a peer without one has the table that has no entries
-unfoldable pub table_at : List (List ℕ) → Seated → List ℕ
-table_at ts (At k) = get_or ts k.0 []
-table_at ts Nothing = 0 ∷ 0 ∷ 0 ∷ 0 ∷ []
+unfoldable pub table_at : List (List ℕ) → Option Seat → List ℕ
+table_at ts (Some k) = get_or ts k.0 []
+table_at ts None = 0 ∷ 0 ∷ 0 ∷ 0 ∷ []
 
 abbrev pub own_table : List Slot → List (List ℕ) → Identity → List ℕ
 own_table row ts who = table_at ts (slot_of row who)
@@ -66,7 +65,7 @@ abbrev pub is_seen : ℕ → Seen → Bool
 is_seen h s = eqb s.entry.handle h
 
 unfoldable pub read_at : ℕ → List Seen → Contents
-read_at h l = first (is_seen h) (λ s. s.read) (Code 0x0A) l
+read_at h l = first (is_seen h) (λ s. s.read) (Code AttributeNotFound) l
 
 unfoldable pub write_at : ℕ → ℕ → ℕ → List Seen → Access
-write_at h off n l = first (is_seen h) (λ s. s.write off n) (Denied 0x0A) l
+write_at h off n l = first (is_seen h) (λ s. s.write off n) (Err AttributeNotFound) l

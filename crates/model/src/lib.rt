@@ -1,6 +1,12 @@
 // What requests ask and what answers are made of. The definitions that the promises cite stand in `specs`.
 #![tactic(auto)]
 
+ghost use Rattle.std.specs.Prelude.{◌≡◌};
+ghost use Rattle.model.specs.declared.CallError.TheVariants.{BadTable, Att};
+
+use table_view::NotATable;
+use wire::att::AttError;
+
 // A range of handles, both ends in it.
 #[derive(Clone, Copy)]
 pub struct Range {
@@ -50,10 +56,18 @@ pub struct Form {
     pub limit: usize,
 }
 
-// What a call of the server answers: refused, by the number that `specs/Told` gives; an ATT code; done; nothing to
-// answer, or no; a value or a response of so many bytes, which stand in the buffer that was lent.
-#[derive(Clone, Copy)]
+// What a call of the server answers: done, or yes; nothing to answer, or no; a value or a response of so many bytes,
+// which stand in the buffer that was lent.
+#[derive(Clone, Copy, Debug, PartialEq, Eq)]
 pub enum Answer {
+    Done,
+    Nothing,
+    Value(usize),
+}
+
+// Why a call is not done: refused, by the number that `specs/Told` gives, or an ATT error.
+#[derive(Clone, Copy, Debug, PartialEq, Eq)]
+pub enum CallError {
     BadState,
     BadBuffer,
     BadPeer,
@@ -61,8 +75,21 @@ pub enum Answer {
     NoSlot,
     NoHandle,
     WrongLength,
-    Code(u8),
-    Done,
-    Nothing,
-    Value(usize),
+    Att(AttError),
+}
+
+impl From<AttError> for CallError {
+    ghost from_gives = { λ code e. e ≡ Att code };
+
+    fn from(e: AttError) -> CallError {
+        CallError::Att(e)
+    }
+}
+
+impl From<NotATable> for CallError {
+    ghost from_gives = { λ _ e. e ≡ BadTable };
+
+    fn from(_e: NotATable) -> CallError {
+        CallError::BadTable
+    }
 }

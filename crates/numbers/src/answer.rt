@@ -1,44 +1,9 @@
 // Answers as numbers.
 ghost use Rattle.std.specs.Prelude.{◌≡◌};
-ghost use Rattle.numbers.specs.Reply.{reply_of};
+ghost use Rattle.numbers.specs.Reply.{reply_of, error_reply};
 
 use crate::Reply;
-use model::Answer;
-
-// An answer as a reply.
-pub fn reply(a: Answer) -> Reply
-    ensures { result ≡ reply_of a }
-{
-    match a {
-        Answer::BadState => refused(1),
-        Answer::BadBuffer => refused(2),
-        Answer::BadPeer => refused(3),
-        Answer::BadTable => refused(4),
-        Answer::NoSlot => refused(7),
-        Answer::NoHandle => refused(8),
-        Answer::WrongLength => refused(9),
-        Answer::Code(c) => Reply {
-            status: 3,
-            code: c,
-            len: 0,
-        },
-        Answer::Done => Reply {
-            status: 0,
-            code: 0,
-            len: 0,
-        },
-        Answer::Nothing => Reply {
-            status: 1,
-            code: 0,
-            len: 0,
-        },
-        Answer::Value(n) => Reply {
-            status: 2,
-            code: 0,
-            len: n,
-        },
-    }
-}
+use model::{Answer, CallError};
 
 // Refused, by a number.
 pub fn refused(n: u8) -> Reply
@@ -48,5 +13,52 @@ pub fn refused(n: u8) -> Reply
         status: 4,
         code: n,
         len: 0,
+    }
+}
+
+impl From<CallError> for Reply {
+    ghost from_gives = { λ e r. r ≡ error_reply e };
+
+    fn from(e: CallError) -> Reply {
+        match e {
+            CallError::BadState => refused(1),
+            CallError::BadBuffer => refused(2),
+            CallError::BadPeer => refused(3),
+            CallError::BadTable => refused(4),
+            CallError::NoSlot => refused(7),
+            CallError::NoHandle => refused(8),
+            CallError::WrongLength => refused(9),
+            CallError::Att(code) => Reply {
+                status: 3,
+                code: u8::from(code),
+                len: 0,
+            },
+        }
+    }
+}
+
+impl From<Result<Answer, CallError>> for Reply {
+    ghost from_gives = { λ a r. r ≡ reply_of a };
+
+    // An answer as a reply.
+    fn from(a: Result<Answer, CallError>) -> Reply {
+        match a {
+            Err(e) => Reply::from(e),
+            Ok(Answer::Done) => Reply {
+                status: 0,
+                code: 0,
+                len: 0,
+            },
+            Ok(Answer::Nothing) => Reply {
+                status: 1,
+                code: 0,
+                len: 0,
+            },
+            Ok(Answer::Value(n)) => Reply {
+                status: 2,
+                code: 0,
+                len: n,
+            },
+        }
     }
 }

@@ -1,149 +1,57 @@
 // Numbers as links and requests.
 ghost use Rattle.std.specs.Prelude.{◌≡◌};
-ghost use Rattle.numbers.specs.Request.{link_of, is_ask, ask_of, is_change, change_of, flags_of, other_of, request_of};
+ghost use Rattle.numbers.specs.Request.{link_of, request_of};
 
 use crate::RequestNumbers;
 use attribute::Link;
 use model::{Ask, Change, Range, Request};
 
 // A link's level: 1 plain, 2 encrypted, 3 authenticated. By any other number the link is gone, which meets no need.
+// By hand: a function and no `From<u8>`, which only the crate that declares `Link` may write; the numbers are this
+// boundary's.
+#[tactic(auto, unfolding(crate::specs::Request::link_of))]
 pub fn link(level: u8) -> Link
     ensures { result ≡ link_of level }
 {
-    if level == 1 {
-        return Link::Plain;
-    }
-    if level == 2 {
-        return Link::Encrypted;
-    }
-    if level == 3 {
-        return Link::Authenticated;
-    }
-    Link::Gone
-}
-
-// What only the view decides, and what may change something; the opcode says which.
-fn ask(q: RequestNumbers) -> Ask
-    ensures { result ≡ ask_of q }
-{
-    let range = Range {
-        start: q.handle,
-        end: q.other,
-    };
-    if q.op == 0x04 {
-        return Ask::FindInformation(range);
-    }
-    if q.op == 0x08 {
-        return Ask::ReadByType(range);
-    }
-    if q.op == 0x10 {
-        return Ask::ReadByGroupType(range);
-    }
-    if q.op == 0x0A {
-        return Ask::Read { handle: q.handle };
-    }
-    if q.op == 0x0C {
-        return Ask::ReadBlob {
-            handle: q.handle,
-            offset: q.other,
-        };
-    }
-    Ask::ReadMultiple
-}
-
-fn change(q: RequestNumbers) -> Change
-    ensures { result ≡ change_of q }
-{
-    if q.op == 0x12 {
-        return Change::Write { handle: q.handle };
-    }
-    if q.op == 0x52 {
-        return Change::WriteCommand { handle: q.handle };
-    }
-    if q.op == 0x16 {
-        return Change::PrepareWrite {
-            handle: q.handle,
-            offset: q.other,
-        };
-    }
-    Change::ExecuteWrite {
-        flags: flags(q.other),
+    match level {
+        1 => Link::Plain,
+        2 => Link::Encrypted,
+        3 => Link::Authenticated,
+        _ => Link::Gone,
     }
 }
 
-fn flags(n: u16) -> u8
-    ensures { result ≡ flags_of n }
-{
-    if n == 1 {
-        return 1;
-    }
-    0
-}
+impl From<RequestNumbers> for Request {
+    ghost from_gives = { λ q rq. rq ≡ request_of q };
 
-// A request by its opcode. By any other it is a confirmation, which is not answered and changes nothing.
-pub fn request(q: RequestNumbers) -> Request
-    ensures { result ≡ request_of q }
-{
-    if is_ask(q.op) {
-        return Request::Ask(ask(q));
-    }
-    if is_change(q.op) {
-        return Request::Change(change(q));
-    }
-    other(q)
-}
-
-fn is_ask(op: u8) -> bool
-    ensures { result ≡ is_ask op }
-{
-    if op == 0x04 {
-        return true;
-    }
-    if op == 0x08 {
-        return true;
-    }
-    if op == 0x10 {
-        return true;
-    }
-    if op == 0x0A {
-        return true;
-    }
-    if op == 0x0C {
-        return true;
-    }
-    op == 0x0E
-}
-
-fn is_change(op: u8) -> bool
-    ensures { result ≡ is_change op }
-{
-    if op == 0x12 {
-        return true;
-    }
-    if op == 0x52 {
-        return true;
-    }
-    if op == 0x16 {
-        return true;
-    }
-    op == 0x18
-}
-
-fn other(q: RequestNumbers) -> Request
-    ensures { result ≡ other_of q }
-{
-    if q.op == 0x02 {
-        return Request::ExchangeMtu { mtu: q.other };
-    }
-    if q.op == 0x06 {
+    // A request by its opcode. By any other it is a confirmation, which is not answered and changes nothing. Execute
+    // Write writes by the flags 1 alone.
+    #[tactic(auto, unfolding(crate::specs::Request::request_of, crate::specs::Request::is_ask, crate::specs::Request::ask_of, crate::specs::Request::is_change, crate::specs::Request::change_of, crate::specs::Request::other_of))]
+    fn from(q: RequestNumbers) -> Request {
+        let (handle, offset) = (q.handle, q.other);
         let range = Range {
             start: q.handle,
             end: q.other,
         };
-        return Request::FindByTypeValue {
-            range,
-            uuid: q.uuid,
-        };
+        match q.op {
+            0x02 => Request::ExchangeMtu { mtu: q.other },
+            0x04 => Request::Ask(Ask::FindInformation(range)),
+            0x06 => Request::FindByTypeValue {
+                range,
+                uuid: q.uuid,
+            },
+            0x08 => Request::Ask(Ask::ReadByType(range)),
+            0x0A => Request::Ask(Ask::Read { handle }),
+            0x0C => Request::Ask(Ask::ReadBlob { handle, offset }),
+            0x0E => Request::Ask(Ask::ReadMultiple),
+            0x10 => Request::Ask(Ask::ReadByGroupType(range)),
+            0x12 => Request::Change(Change::Write { handle }),
+            0x16 => Request::Change(Change::PrepareWrite { handle, offset }),
+            0x18 => Request::Change(Change::ExecuteWrite {
+                flags: u8::from(q.other == 1),
+            }),
+            0x52 => Request::Change(Change::WriteCommand { handle }),
+            _ => Request::Confirmation,
+        }
     }
-    Request::Confirmation
 }

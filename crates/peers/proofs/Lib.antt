@@ -2,5 +2,4 @@ pub mod Laws
 pub mod Changes
 pub mod Identities
 pub mod Moves
-pub mod Numbers
 pub mod Rows

@@ -44,14 +44,6 @@ slot_back s h =
     let a : list_of 6 (λ i. get_or s.id.addr i 0) ≡ s.id.addr = subst (λ (n : ℕ). list_of n (λ i. get_or s.id.addr i 0) ≡ s.id.addr) h (elements 0 s.id.addr) in
     λ j. record { id = record { kind = s.id.kind; addr = a j }; connected = s.connected }
 
--- eight slots are a row, each known by what it decodes to
-pub eight_slots : (row : List Slot) (d : Slot) → length row ≡ 8 → (get_or row 0 d ∷ get_or row 1 d ∷ get_or row 2 d ∷ get_or row 3 d ∷ get_or row 4 d ∷ get_or row 5 d ∷ get_or row 6 d ∷ get_or row 7 d ∷ []) ≡ row
-unfolding list_of
-eight_slots row d h = subst (λ (n : ℕ). list_of n (λ i. get_or row i d) ≡ row) h (elements d row)
-
-pub made : {a b c d e f g h a' b' c' d' e' f' g' h' : Slot} → a ≡ a' → b ≡ b' → c ≡ c' → d ≡ d' → e ≡ e' → f ≡ f' → g ≡ g' → h ≡ h' → (a ∷ b ∷ c ∷ d ∷ e ∷ f ∷ g ∷ h ∷ []) ≡ (a' ∷ b' ∷ c' ∷ d' ∷ e' ∷ f' ∷ g' ∷ h' ∷ [])
-made p₀ p₁ p₂ p₃ p₄ p₅ p₆ p₇ = λ j. p₀ j ∷ p₁ j ∷ p₂ j ∷ p₃ j ∷ p₄ j ∷ p₅ j ∷ p₆ j ∷ p₇ j ∷ []
-
 -- rows of eight-byte slots that decode to the same are the same
 pub one_row : (es es' : List (List ℕ)) → ((i : ℕ) → i < length es → length (get_or es i []) ≡ 8) → ((i : ℕ) → i < length es' → length (get_or es' i []) ≡ 8) → row_of es ≡ row_of es' → es ≡ es'
 one_row [] [] l l' e = refl

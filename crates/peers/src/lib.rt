@@ -7,7 +7,7 @@ pub mod who;
 
 // A peer: the kind of its address, and the address, low byte first. All zeros is the empty identity, nobody's.
 #[repr(C)]
-#[derive(Clone, Copy)]
+#[derive(Clone, Copy, Debug, Default, PartialEq, Eq)]
 pub struct Identity {
     pub kind: u8,
     pub addr: [u8; 6],
@@ -15,37 +15,28 @@ pub struct Identity {
 
 // A slot: whose it is, and whether that peer is connected, which is any byte but 0.
 #[repr(C)]
-#[derive(Clone, Copy)]
+#[derive(Clone, Copy, Debug, Default, PartialEq, Eq)]
 pub struct Slot {
     pub id: Identity,
     pub connected: u8,
 }
 
 // A slot of the row, by its place there: no place of a list or of an index is one.
-#[derive(Clone, Copy)]
+#[derive(Clone, Copy, Debug, PartialEq, Eq)]
 pub struct Seat(pub usize);
 
-// What a walk over the row answers: the first slot that is wanted, or that there is none.
-#[derive(Clone, Copy)]
-pub enum Seated {
-    At(Seat),
-    Nothing,
-}
-
 // What a walk over the row wants: the peer's own slot; its own or an empty one; one that is not connected.
-#[derive(Clone, Copy)]
+#[derive(Clone, Copy, Debug, PartialEq, Eq)]
 pub enum Want {
     Own,
     Usable,
     Free,
 }
 
-// What connecting or leaving comes to: which place of the row changes, and the end of the row for none; the slot there
-// then; whether its table is cleared; and whether there was no slot to have.
-#[derive(Clone, Copy)]
+// What connecting or leaving changes: which slot of the row, what it is then, and whether its table is cleared.
+#[derive(Clone, Copy, Debug, PartialEq, Eq)]
 pub struct Move {
-    pub place: usize,
+    pub seat: Seat,
     pub slot: Slot,
     pub clears: bool,
-    pub full: bool,
 }

@@ -9,44 +9,47 @@ ghost use Rattle.model.specs.Told.{Answered};
 ghost use Rattle.model.specs.Change.{longer, may_prepare, no_record, record_after, data_after};
 
 use crate::Changed;
-use attribute::Access;
-use model::Answer;
+use model::{Answer, CallError};
 use state::Prepared;
+use wire::att::AttError;
 use wire::cursor::WriteCursor;
 use wire::sizes::VALUE_SIZE;
 
 // Whether n bytes more go into the 512 of a prepared write.
-fn has_room(len: u16, n: usize) -> Access
+#[tactic(auto, unfolding(model::specs::Answer::size_rule))]
+fn has_room(len: u16, n: usize) -> Result<(), AttError>
     requires { n < 2 ^ 63 }
     ensures { result ≡ size_rule len n }
 {
     if VALUE_SIZE < len as usize + n {
-        return Access::Denied(0x09);
+        return Err(AttError::PrepareQueueFull);
     }
-    Access::Granted
+    Ok(())
 }
 
 // Whether n bytes can be appended to a link's prepared write.
-fn may_prepare(p: Prepared, handle: u16, offset: u16, n: usize) -> Access
+#[tactic(auto, unfolding(model::specs::Answer::prepare_rule))]
+fn may_prepare(p: Prepared, handle: u16, offset: u16, n: usize) -> Result<(), AttError>
     requires { n < 2 ^ 63 }
     ensures { result ≡ may_prepare p handle offset n }
 {
     if handle == 0 {
-        return Access::Denied(0x01);
+        return Err(AttError::InvalidHandle);
     }
     if p.handle == 0 {
         return has_room(p.len, n);
     }
     if p.handle != handle {
-        return Access::Denied(0x09);
+        return Err(AttError::PrepareQueueFull);
     }
     if offset as usize != p.offset as usize + p.len as usize {
-        return Access::Denied(0x07);
+        return Err(AttError::InvalidOffset);
     }
     has_room(p.len, n)
 }
 
 // The prepared write with n bytes more.
+#[tactic(auto, unfolding(model::specs::Change::longer))]
 fn grow(p: Prepared, handle: u16, offset: u16, n: u16) -> Prepared
     requires { p.len + n ≤ value_bytes }
     ensures { result ≡ longer p handle offset n }
@@ -78,6 +81,7 @@ fn echo(out: &mut [u8], handle: u16, offset: u16, d: &[u8]) -> usize
 }
 
 // Prepare Write (0x16): d is appended to the link's prepared write.
+#[tactic(auto, using(crate::proofs::Preparing::granted_fits))]
 pub fn prepare(
     p: Prepared,
     bytes: &mut [u8],
@@ -91,18 +95,18 @@ pub fn prepare(
         × (bytes.new ≡ data_after p bytes.old (PrepareWrite handle offset) d.now)
         × Answered out.old out.new result.answer (value (done_rsp (echo_rsp handle offset d.now) 0x16 handle (may_prepare p handle offset (length d.now)))) }
 {
-    if let Access::Denied(code) = may_prepare(p, handle, offset, d.len()) {
+    if let Err(code) = may_prepare(p, handle, offset, d.len()) {
         let n = response::inner::error_response(out, 0x16, handle, code);
         return Changed {
             prepared: p,
-            answer: Answer::Value(n),
+            answer: Ok(Answer::Value(n)),
         };
     }
     wire::inner::copy(bytes, p.len as usize, d);
     let n = echo(out, handle, offset, d);
     Changed {
         prepared: grow(p, handle, offset, d.len() as u16),
-        answer: Answer::Value(n),
+        answer: Ok(Answer::Value(n)),
     }
 }
 
@@ -118,7 +122,7 @@ pub fn no_record() -> Prepared
 }
 
 // An answer that leaves the link with this prepared write.
-pub fn with_record(p: Prepared, answer: Answer) -> Changed
+pub fn with_record(p: Prepared, answer: Result<Answer, CallError>) -> Changed
     ensures { (result.prepared ≡ p) × (result.answer ≡ answer) }
 {
     Changed {

@@ -3,12 +3,12 @@
 
 pub mod inner;
 
-use model::Answer;
+use model::{Answer, CallError};
 use state::Prepared;
 
 // The link's prepared write after a request, with the answer.
 #[derive(Clone, Copy)]
 pub struct Changed {
     pub prepared: Prepared,
-    pub answer: Answer,
+    pub answer: Result<Answer, CallError>,
 }

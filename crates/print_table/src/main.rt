@@ -8,6 +8,9 @@ use std::io::Read;
 use table_printer::TEXT_SIZE;
 
 // Reads until the buffer is full or the input ends, and answers how many bytes it put at the buffer's start.
+//
+// By hand: `read_exact` refuses an input that ends before, and `read_to_end` takes a growing buffer, where the project
+// has no heap.
 fn read_full<R: Input>(rt: &R, buf: &mut [u8]) -> io::Result<usize>
     ensures { IfOk result (λ n. n ≤ length buf.new) }
 {

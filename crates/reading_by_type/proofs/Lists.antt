@@ -1,5 +1,6 @@
 -- The ways of the two reads by type: a lead, a row, a turn, and the whole answer from the first wanted entry on.
 -- Assumes nothing.
+use Rattle.std.specs.Prelude.{Some, None, Ok, Err}
 use mathlib.Core.Path.{◌≡◌, sym, ap, ◌∙◌}
 use mathlib.Core.Bool.{Bool, true, false, cond}
 use mathlib.Core.List.{List, [], ◌∷◌, ◌++◌, map}
@@ -13,7 +14,8 @@ use borrow.Author.Tests.{lt-ltb, le-ltb, eq-eqb, ne_eqb}
 use Rattle.wire.specs.Number.{word_bytes}
 use Rattle.wire.specs.Cursor.{put as written, moved, Wrote}
 use Rattle.wire.specs.Walk.{place_from}
-use Rattle.wire.specs.declared.Found.TheVariants.{At, Nothing}
+use Rattle.wire.specs.declared.att.AttError.{AttError}
+use Rattle.wire.specs.declared.att.AttError.TheVariants.{AttributeNotFound}
 use Rattle.wire.specs.declared.cursor.WriteCursor.{WriteCursor}
 use Rattle.wire.proofs.Tests.{split}
 use Rattle.wire.proofs.Walk.{placed}
@@ -32,9 +34,7 @@ use Rattle.model.proofs.Running.{run_map, starts_at, starts_nowhere, from_map, m
 use Rattle.model.proofs.Sending.{sent, sent_as}
 use Rattle.response.proofs.Errors.{one_byte}
 use Rattle.values.specs.declared.ValueSpan.{ValueSpan}
-use Rattle.values.specs.declared.Located.{Located}
-use Rattle.values.specs.declared.Located.TheVariants.{Here, Not}
-use Rattle.values.specs.Locate.{read_span, side_of, span_bytes, contents_of, LiesInside, ReadyToRead}
+use Rattle.values.specs.Locate.{read_span, side_of, span_bytes, contents_of, LiesInside, ReadyToRead, Located}
 use Rattle.values.proofs.Meaning.{span_length, at_got, at_inside}
 use Rattle.reading_by_type.specs.Turns.{cut_to, row_at}
 
@@ -99,12 +99,12 @@ module _ (f : Form) (store t : List ℕ) (room : ℕ) (s : ValueSpan) (b : s.sta
 
 -- the ways of a located value
 module _ (f : Form) (store t : List ℕ) (e : Entry) (es : List Entry) (size room : ℕ) (v : Located) where
-  pub no_value : (c : ℕ) → v ≡ Not c → stop ≡ value_turn f size e es room (contents_of store t v)
+  pub no_value : (c : AttError) → v ≡ Err c → stop ≡ value_turn f size e es room (contents_of store t v)
   unfolding contents_of value_turn
   no_value c q = rw q
 
   -- n of its bytes are to go in
-  module _ (s : ValueSpan) (q : v ≡ Here s) (b : s.start + s.len ≤ length (side_of store t s)) (n : ℕ) (m : n ≡ cut_to f room s.len) where
+  module _ (s : ValueSpan) (q : v ≡ Ok s) (b : s.start + s.len ≤ length (side_of store t s)) (n : ℕ) (m : n ≡ cut_to f room s.len) where
     pub other_size : (n ≡ size → ⊥) → stop ≡ value_turn f size e es room (contents_of store t v)
     unfolding contents_of value_turn
     other_size d = rw (q, ne_eqb (length (cut f room (span_bytes store t s))) size (λ x. d (m ∙ sym (cut_is f store t room s b) ∙ x)))
@@ -121,7 +121,7 @@ behind_lead f e es old mid c next size h w =
     let a : next.len ≡ c.len + length (lead f e es) = ap (λ (x : WriteCursor). x.len) w.cursor in
     omega (arith, lead_length f e es, wrote_length _ _ _ _ _ w)
 
-pub span_inside : (store t : List ℕ) (v : Located) (s : ValueSpan) → v ≡ Here s → LiesInside store t v → s.start + s.len ≤ length (side_of store t s)
+pub span_inside : (store t : List ℕ) (v : Located) (s : ValueSpan) → v ≡ Ok s → LiesInside store t v → s.start + s.len ≤ length (side_of store t s)
 span_inside store t v s e b = rw e at b
 
 -- what is written behind it
@@ -161,11 +161,11 @@ module _ (f : Form) (link : Link) (store t : List ℕ) (want : Entry → Bool) (
   unfolding seen_by
   starts = from_map (seen_by link store t) (λ (s : Seen). want s.entry) list
 
-  pub none_found : place_from (recorded want) list 0 ≡ Nothing → error_rsp f.op start 0x0A ≡ answer
+  pub none_found : place_from (recorded want) list 0 ≡ None → error_rsp f.op start AttributeNotFound ≡ answer
   unfolding list_from
   none_found e = rw (starts, starts_nowhere (recorded want) [] list e)
 
-  module _ (i : ℕ) (e : place_from (recorded want) list 0 ≡ At i) where
+  module _ (i : ℕ) (e : place_from (recorded want) list 0 ≡ Some i) where
     inside : i < length list
     inside = (placed (recorded want) [] list 0 i e).inside
 
@@ -183,11 +183,11 @@ module _ (f : Form) (link : Link) (store t : List ℕ) (want : Entry → Bool) (
       unfolding list_from
       first_is = rw (starts, starts_at (recorded want) [] list i e) (ap first_got (ap (contents_of store t) q ∙ at_got store t link r))
 
-      pub first_code : (c h : ℕ) → v ≡ Not c → h ≡ handle_of r → error_rsp f.op h c ≡ answer
+      pub first_code : (c : AttError) (h : ℕ) → v ≡ Err c → h ≡ handle_of r → error_rsp f.op h c ≡ answer
       unfolding first_rsp contents_of seen_by entry_of attribute_of
       first_code c h d x = (let z : error_rsp f.op h c ≡ first_got (contents_of store t v) = rw (d, x) in z) ∙ first_is
 
-      pub first_value : ReadyToRead list (length store) t → (s : ValueSpan) → v ≡ Here s → (size : ℕ) → size ≡ cut_to f room s.len → f.rsp ∷ (size + extra_of f) ∷ run (row_at f link store t want size) (drop i list) room ≡ answer
+      pub first_value : ReadyToRead list (length store) t → (s : ValueSpan) → v ≡ Ok s → (size : ℕ) → size ≡ cut_to f room s.len → f.rsp ∷ (size + extra_of f) ∷ run (row_at f link store t want size) (drop i list) room ≡ answer
       unfolding first_rsp contents_of
       first_value k s d size m =
           let b : LiesInside store t v = rw q (at_inside store t k.table list k.right i (inside) link) in

@@ -4,8 +4,15 @@ use Rattle.attribute.specs.Record.{Entry}
 use Rattle.attribute.specs.declared.Link.{Link}
 use Rattle.model.specs.View.{seen_by}
 use Rattle.model.specs.Run.{Chunk}
-use Rattle.model.specs.Rows.{extra_of, row_turn}
+use Rattle.model.specs.Rows.{by_type_form, by_group_form, extra_of, row_turn}
 use Rattle.model.specs.declared.Form.{Form}
+use Rattle.reading_by_type.specs.declared.By.{By}
+use Rattle.reading_by_type.specs.declared.By.TheVariants.{Attribute, Group}
+
+-- the form of either
+abbrev pub form_of : By → Form
+form_of Attribute = by_type_form
+form_of Group = by_group_form
 
 -- how many of len bytes `cut` leaves
 unfoldable pub cut_to : Form → ℕ → ℕ → ℕ

@@ -2,3 +2,10 @@
 #![tactic(auto)]
 
 pub mod inner;
+
+// Which of the two: by the type of an attribute, or by that of a group.
+#[derive(Clone, Copy)]
+pub enum By {
+    Attribute,
+    Group,
+}

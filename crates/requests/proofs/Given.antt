@@ -1,4 +1,5 @@
 -- A request that needs no slot answers and leaves the same with any. Assumes nothing.
+use Rattle.std.specs.Prelude.{Option, None}
 use mathlib.Core.Path.{◌≡◌, refl, sym, ap, ◌∙◌}
 use mathlib.Core.Bool.{true, false}
 use mathlib.Core.List.{List}
@@ -6,8 +7,6 @@ use Prim.Native.Nat.{ℕ}
 use Rattle.table_view.specs.Told.{value}
 use Rattle.attribute.specs.Record.{Entry}
 use Rattle.attribute.specs.declared.Link.{Link}
-use Rattle.peers.specs.declared.Seated.{Seated}
-use Rattle.peers.specs.declared.Seated.TheVariants.{Nothing}
 use Rattle.state.specs.State.{State}
 use Rattle.model.specs.View.{Pending, seen_all, table_at, view_of}
 use Rattle.model.specs.Rows.{entries_in}
@@ -19,14 +18,15 @@ use Rattle.model.specs.declared.Request.{Request}
 use Rattle.model.specs.declared.Request.TheVariants as request
 use Rattle.requests.specs.Slot.{needs_slot, given_slot}
 use Rattle.requests.proofs.Asking.{entries_seen}
+use Rattle.peers.specs.declared.Seat.{Seat}
 
-module _ (link : Link) (list : List (List ℕ)) (store : List ℕ) (ts : List (List ℕ)) (w : Pending) (room : ℕ) (d : List ℕ) (slot : Seated) where
+module _ (link : Link) (list : List (List ℕ)) (store : List ℕ) (ts : List (List ℕ)) (w : Pending) (room : ℕ) (d : List ℕ) (slot : Option Seat) where
   information : (t u : List ℕ) → entries_in (seen_all link list store t) ≡ entries_in (seen_all link list store u)
   information t u = entries_seen link list store t ∙ sym (entries_seen link list store u)
 
   pub told_given : (rq : Request) → request_told (view_of link list store (table_at ts (given_slot rq slot)) w) list store room rq d ≡ request_told (view_of link list store (table_at ts slot) w) list store room rq d
   unfolding request_told ask_rsp change_told given_slot
-  told_given (request.Ask (FindInformation g)) = ap (λ (es : List Entry). value (info_rsp g room es)) (information (table_at ts Nothing) (table_at ts slot))
+  told_given (request.Ask (FindInformation g)) = ap (λ (es : List Entry). value (info_rsp g room es)) (information (table_at ts None) (table_at ts slot))
   told_given (request.Ask (ReadByType g)) = refl
   told_given (request.Ask (ReadByGroupType g)) = refl
   told_given (request.Ask (Read h)) = refl
@@ -40,7 +40,7 @@ module _ (link : Link) (list : List (List ℕ)) (store : List ℕ) (ts : List (L
   told_given (request.ExchangeMtu mtu) = refl
   told_given request.Confirmation = refl
 
-pub lent_given : (link : Link) (s : State) (w : Pending) (d : List ℕ) (slot : Seated) (rq : Request) → state_by link s (given_slot rq slot) w rq d ≡ state_by link s slot w rq d
+pub lent_given : (link : Link) (s : State) (w : Pending) (d : List ℕ) (slot : Option Seat) (rq : Request) → state_by link s (given_slot rq slot) w rq d ≡ state_by link s slot w rq d
 unfolding state_by state_after given_slot
 lent_given link s w d slot (request.Ask a) = refl
 lent_given link s w d slot (request.FindByTypeValue g uuid) = refl
@@ -52,8 +52,8 @@ lent_given link s w d slot (request.ExchangeMtu mtu) = refl
 lent_given link s w d slot request.Confirmation = refl
 
 -- the two slots
-module _ (rq : Request) (slot : Seated) where
-  pub no_slot : needs_slot rq ≡ false → Nothing ≡ given_slot rq slot
+module _ (rq : Request) (slot : Option Seat) where
+  pub no_slot : needs_slot rq ≡ false → None ≡ given_slot rq slot
   unfolding given_slot
   no_slot h = rw h refl
 

@@ -1,11 +1,10 @@
 -- Which requests look at the asking peer's own values, and so need its slot. Assumes nothing.
-use Rattle.std.specs.Prelude.{Bool, true, false, cond}
-use Rattle.peers.specs.declared.Seated.{Seated}
-use Rattle.peers.specs.declared.Seated.TheVariants.{Nothing}
+use Rattle.std.specs.Prelude.{Bool, true, false, cond, Option, None}
 use Rattle.model.specs.declared.Ask.TheVariants.{FindInformation, ReadByType, ReadByGroupType, Read, ReadBlob, ReadMultiple}
 use Rattle.model.specs.declared.Change.TheVariants.{Write, WriteCommand, PrepareWrite, ExecuteWrite}
 use Rattle.model.specs.declared.Request.{Request}
 use Rattle.model.specs.declared.Request.TheVariants as request
+use Rattle.peers.specs.declared.Seat.{Seat}
 
 -- Find Information tells handles and types, Read Multiple is not served, and Prepare Write changes the link's record
 -- alone
@@ -25,5 +24,5 @@ needs_slot (request.ExchangeMtu mtu) = false
 needs_slot request.Confirmation = false
 
 -- the slot that it is given: none, where it needs none
-unfoldable pub given_slot : Request → Seated → Seated
-given_slot rq slot = cond (needs_slot rq) slot Nothing
+unfoldable pub given_slot : Request → Option Seat → Option Seat
+given_slot rq slot = cond (needs_slot rq) slot None

@@ -1,4 +1,6 @@
 // A request that meets a valid state, with a buffer for its answer. `slot` is the asking peer's.
+//
+// By hand: a call that changes something is lent the ranges side by side, for the reason that `storing` gives.
 ghost use Rattle.std.specs.Prelude.{◌≡◌, true, ◌≤◌, length};
 ghost use Rattle.wire.specs.Size.{value_bytes};
 ghost use Rattle.state.specs.State.{Becomes};
@@ -7,45 +9,34 @@ ghost use Rattle.model.specs.View.{pending_of, table_at, seen_all, view_of};
 ghost use Rattle.model.specs.Answer.{Sent, ask_rsp, request_told};
 ghost use Rattle.model.specs.Told.{Answered};
 ghost use Rattle.model.specs.Change.{state_by, record_by, data_by};
-ghost use Rattle.values.specs.Locate.{ReadyToRead};
 ghost use Rattle.storing.specs.Ready.{ReadyToStore};
 ghost use Rattle.requests.specs.Fits.{RequestFits};
 ghost use Rattle.requests.specs.Slot.{needs_slot};
 
 use attribute::Link;
 use model::{Answer, Ask, Change, Request};
-use peers::Seated;
+use peers::Seat;
 use preparing::Changed;
 use preparing::inner::with_record;
+use reading_by_type::By;
+use reading_by_type::inner::read_by;
 use state::Prepared;
+use values::Values;
 use wire::sizes::{Record, Table};
 use writing::inner::change;
 
 // The requests that only read, with the asking peer's own table.
-fn ask(
-    list: &[Record],
-    store: &[u8],
-    table: &[u8],
-    link: Link,
-    rq: Ask,
-    d: &[u8],
-    out: &mut [u8],
-) -> usize
-    requires { ReadyToRead list.now (length store.now) table.now × (6 ≤ length out.old) }
-    ensures { Sent out.old out.new result (ask_rsp (seen_all link list.now store.now table.now) (length out.old) rq d.now) }
+#[tactic(auto, unfolding(model::specs::Answer::ask_rsp))]
+fn ask(v: Values, link: Link, rq: Ask, d: &[u8], out: &mut [u8]) -> usize
+    requires { 6 ≤ length out.old }
+    ensures { Sent out.old out.new result (ask_rsp (seen_all link v.entry.list.now v.entry.store.now v.entry.table.now) (length out.old) rq d.now) }
 {
     match rq {
-        Ask::FindInformation(g) => finding_information::inner::find_information(list, g, out),
-        Ask::ReadByType(g) => reading_by_type::inner::read_by_type(
-            list, store, table, link, g, d, out,
-        ),
-        Ask::ReadByGroupType(g) => reading_by_type::inner::read_by_group_type(
-            list, store, table, link, g, d, out,
-        ),
-        Ask::Read { handle } => reading::inner::read(list, store, table, link, handle, out),
-        Ask::ReadBlob { handle, offset } => reading::inner::read_blob(
-            list, store, table, link, handle, offset, out,
-        ),
+        Ask::FindInformation(g) => finding_information::inner::find_information(v.list, g, out),
+        Ask::ReadByType(g) => read_by(By::Attribute, v, link, g, d, out),
+        Ask::ReadByGroupType(g) => read_by(By::Group, v, link, g, d, out),
+        Ask::Read { handle } => reading::inner::read(v, link, handle, out),
+        Ask::ReadBlob { handle, offset } => reading::inner::read_blob(v, link, handle, offset, out),
         Ask::ReadMultiple => reading::inner::read_multiple(d, out),
     }
 }
@@ -55,7 +46,7 @@ fn ask_from(
     list: &[Record],
     store: &[u8],
     tables: &[Table],
-    slot: Seated,
+    slot: Option<Seat>,
     link: Link,
     rq: Ask,
     d: &[u8],
@@ -65,11 +56,22 @@ fn ask_from(
     ensures { Sent out.old out.new result (ask_rsp (seen_all link list.now store.now (table_at tables.now slot)) (length out.old) rq d.now) }
 {
     match slot {
-        Seated::At(k) => {
-            let at = k.0;
-            ask(list, store, &tables[at], link, rq, d, out)
+        Some(k) => {
+            let own = Values {
+                list,
+                store,
+                table: &tables[k.0],
+            };
+            ask(own, link, rq, d, out)
         }
-        Seated::Nothing => ask(list, store, &[0, 0, 0, 0], link, rq, d, out),
+        None => {
+            let empty = Values {
+                list,
+                store,
+                table: &[0, 0, 0, 0],
+            };
+            ask(empty, link, rq, d, out)
+        }
     }
 }
 
@@ -83,34 +85,29 @@ pub fn needs_slot(rq: Request) -> bool
             Ask::FindInformation(_) => false,
             Ask::ReadByType(_) => true,
             Ask::ReadByGroupType(_) => true,
-            Ask::Read { handle: _ } => true,
-            Ask::ReadBlob {
-                handle: _,
-                offset: _,
-            } => true,
+            Ask::Read { .. } => true,
+            Ask::ReadBlob { .. } => true,
             Ask::ReadMultiple => false,
         },
-        Request::FindByTypeValue { range: _, uuid: _ } => false,
+        Request::FindByTypeValue { .. } => false,
         Request::Change(c) => match c {
-            Change::Write { handle: _ } => true,
-            Change::WriteCommand { handle: _ } => true,
-            Change::PrepareWrite {
-                handle: _,
-                offset: _,
-            } => false,
-            Change::ExecuteWrite { flags: _ } => true,
+            Change::Write { .. } => true,
+            Change::WriteCommand { .. } => true,
+            Change::PrepareWrite { .. } => false,
+            Change::ExecuteWrite { .. } => true,
         },
-        Request::ExchangeMtu { mtu: _ } => false,
+        Request::ExchangeMtu { .. } => false,
         Request::Confirmation => false,
     }
 }
 
 // Any request.
+#[tactic(auto, unfolding(model::specs::Answer::request_told, model::specs::Change::state_by, model::specs::Change::record_by, model::specs::Change::data_by))]
 pub fn answer(
     list: &mut [Record],
     store: &mut [u8],
     tables: &mut [Table],
-    slot: Seated,
+    slot: Option<Seat>,
     link: Link,
     p: Prepared,
     bytes: &mut [u8],
@@ -128,14 +125,14 @@ pub fn answer(
     match rq {
         Request::Ask(a) => {
             let n = ask_from(list, store, tables, slot, link, a, d, out);
-            with_record(p, Answer::Value(n))
+            with_record(p, Ok(Answer::Value(n)))
         }
         Request::FindByTypeValue { range, uuid } => {
             let n = finding_by_value::inner::find_by_type_value(list, store, range, uuid, d, out);
-            with_record(p, Answer::Value(n))
+            with_record(p, Ok(Answer::Value(n)))
         }
         Request::Change(c) => change(list, store, tables, slot, link, p, bytes, c, d, out),
-        Request::ExchangeMtu { mtu: _ } => with_record(p, Answer::Nothing),
-        Request::Confirmation => with_record(p, Answer::Nothing),
+        Request::ExchangeMtu { .. } => with_record(p, Ok(Answer::Nothing)),
+        Request::Confirmation => with_record(p, Ok(Answer::Nothing)),
     }
 }

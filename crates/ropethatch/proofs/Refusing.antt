@@ -1,5 +1,6 @@
 -- A row of other than eight slots is in no valid state, so that connecting and leaving refuse it by 1 and leave all as
 -- it was. Assumes nothing.
+use Rattle.std.specs.Prelude.{Err}
 use mathlib.Core.Path.{◌≡◌, ap}
 use mathlib.Core.Bool.{Bool, false}
 use lib.ListN.{length}
@@ -9,20 +10,18 @@ use Rattle.peers.specs.Identity.{is_bad}
 use Rattle.peers.specs.declared.Identity.{Identity}
 use Rattle.state.specs.State.{State}
 use Rattle.state.proofs.Answers.{other_row}
-use Rattle.model.specs.declared.Answer.TheVariants.{BadState}
-use Rattle.admission.specs.Admission.{admission_by, admission, told_if, left_if}
+use Rattle.admission.specs.Admission.{admission_by, admission, told_if, left_if, Admission}
 use Rattle.attribute_server.specs.Connection.{connect_told, connect_left, disconnect_told, disconnect_left}
-use Rattle.admission.specs.declared.Admission.{Admission}
-use Rattle.admission.specs.declared.Admission.TheVariants.{No}
 use Rattle.numbers.specs.Reply.{as_reply, reply_to}
 use Rattle.numbers.specs.declared.Reply.{Reply}
+use Rattle.model.specs.declared.CallError.TheVariants.{BadState}
 
 -- the reply of refusal 1
 abbrev pub one : Reply
 one = as_reply 4 1 0
 
 module _ (s : State) (who : Identity) where
-  not_let_in : (length s.row ≡ slot_count → ⊥) → No BadState ≡ admission s who
+  not_let_in : (length s.row ≡ slot_count → ⊥) → Err BadState ≡ admission s who
   unfolding admission_by
   not_let_in other = ap (λ (v : Bool). admission_by v false (is_bad who)) (other_row s other)
 

@@ -1,16 +1,28 @@
 // Tablets that come and go: the row of slots is lent, walked, and the one slot that changes is stored.
 ghost use Rattle.std.specs.Prelude.{◌≡◌};
+ghost use Rattle.peers.specs.Slots.{row_moved};
 ghost use Rattle.state.specs.State.{state};
 ghost use Rattle.attribute_server.specs.Connection.{connect_told, connect_left, disconnect_told, disconnect_left};
 ghost use Rattle.numbers.specs.Reply.{reply_to};
 ghost use Rattle.numbers.specs.Request.{is_set};
 
-use lent_row::first;
 use lent_row::inner::load;
 use numbers::Reply;
 use numbers::answer::refused;
-use peers::{Identity, Slot, Want};
+use peers::inner::first;
+use peers::{Identity, Move, Slot, Want};
 use wire::sizes::{Record, SLOTS, Table};
+
+// Puts the slot of a move at its place, if there is one. Every other slot stays.
+fn put(slots: &mut [Slot], m: Option<Move>)
+    ensures { slots.new ≡ row_moved slots.old m }
+{
+    if let Some(m) = m {
+        if m.seat.0 < slots.len() {
+            slots[m.seat.0] = m.slot;
+        }
+    }
+}
 
 // Connects a peer.
 #[unsafe(no_mangle)]
@@ -31,10 +43,7 @@ pub extern "C" fn ropethatch_connect(
     let usable = first(slots, who, Want::Usable);
     let free = first(slots, who, Want::Free);
     let o = edge::inner::connect(list, store, load(slots), tables, who, usable, free);
-    let at = o.place;
-    if at < slots.len() {
-        slots[at] = o.slot;
-    }
+    put(slots, o.m);
     o.reply
 }
 
@@ -57,9 +66,6 @@ pub extern "C" fn ropethatch_disconnect(
     }
     let own = first(slots, who, Want::Own);
     let o = edge::inner::disconnect(list, store, load(slots), tables, who, bonded, own);
-    let at = o.place;
-    if at < slots.len() {
-        slots[at] = o.slot;
-    }
+    put(slots, o.m);
     o.reply
 }

@@ -4,8 +4,10 @@ ghost use Rattle.state.specs.State.{lent};
 ghost use Rattle.attribute_server.specs.Subscription.{subscribed_told};
 ghost use Rattle.numbers.specs.Reply.{reply_to};
 
+use application::Bell;
 use numbers::Reply;
 use peers::Identity;
+use state::Lent;
 use wire::sizes::{Record, SlotBytes, Table};
 
 // To notifications.
@@ -21,7 +23,13 @@ pub extern "C" fn ropethatch_should_notify(
     ensures { let s = lent list.now store.now row.now tables.now in
         result ≡ reply_to (subscribed_told s who handle 1) }
 {
-    edge::subscription::should_notify(list, store, row, tables, who, handle)
+    let hub = Lent {
+        list,
+        store,
+        row,
+        tables,
+    };
+    edge::subscription::should(hub, who, handle, Bell::Notify)
 }
 
 // To indications.
@@ -37,5 +45,11 @@ pub extern "C" fn ropethatch_should_indicate(
     ensures { let s = lent list.now store.now row.now tables.now in
         result ≡ reply_to (subscribed_told s who handle 2) }
 {
-    edge::subscription::should_indicate(list, store, row, tables, who, handle)
+    let hub = Lent {
+        list,
+        store,
+        row,
+        tables,
+    };
+    edge::subscription::should(hub, who, handle, Bell::Indicate)
 }

@@ -8,6 +8,7 @@ ghost use Rattle.edge.specs.Served.{Delivered};
 
 use numbers::Reply;
 use peers::Identity;
+use state::Lent;
 use wire::sizes::{Record, SlotBytes, Table};
 
 // Copies the table of the peer's slot out.
@@ -23,7 +24,13 @@ pub extern "C" fn ropethatch_get_client_att_table(
     ensures { let s = lent list.now store.now row.now tables.now in
         Delivered out.old out.new result (fetched_told s who) }
 {
-    edge::table::get_client_att_table(list, store, row, tables, who, out)
+    let hub = Lent {
+        list,
+        store,
+        row,
+        tables,
+    };
+    edge::table::get_client_att_table(hub, who, out)
 }
 
 // Puts a saved table's values into the peer's slot.

@@ -7,8 +7,10 @@ ghost use Rattle.numbers.specs.Reply.{reply_to};
 ghost use Rattle.numbers.specs.Request.{link_of};
 ghost use Rattle.edge.specs.Served.{Delivered};
 
+use attribute::Wish;
 use numbers::Reply;
 use peers::Identity;
+use state::Lent;
 use wire::sizes::{Record, SlotBytes, Table};
 
 // Copies the value under a handle out.
@@ -25,7 +27,13 @@ pub extern "C" fn ropethatch_get(
     ensures { let s = lent list.now store.now row.now tables.now in
         Delivered out.old out.new result (get_told s who handle (length out.old)) }
 {
-    edge::value::get(list, store, row, tables, who, handle, out)
+    let hub = Lent {
+        list,
+        store,
+        row,
+        tables,
+    };
+    edge::value::get(hub, who, handle, out)
 }
 
 // Sets the value under a handle.
@@ -60,7 +68,13 @@ pub extern "C" fn ropethatch_can_read(
     ensures { let s = lent list.now store.now row.now tables.now in
         result ≡ reply_to (can_told s who Read (link_of level) handle) }
 {
-    edge::value::can_read(list, store, row, tables, who, level, handle)
+    let hub = Lent {
+        list,
+        store,
+        row,
+        tables,
+    };
+    edge::value::can(hub, who, level, handle, Wish::Read)
 }
 
 // Whether it may write there.
@@ -77,5 +91,11 @@ pub extern "C" fn ropethatch_can_write(
     ensures { let s = lent list.now store.now row.now tables.now in
         result ≡ reply_to (can_told s who Write (link_of level) handle) }
 {
-    edge::value::can_write(list, store, row, tables, who, level, handle)
+    let hub = Lent {
+        list,
+        store,
+        row,
+        tables,
+    };
+    edge::value::can(hub, who, level, handle, Wish::Write)
 }

@@ -1,4 +1,5 @@
 -- Agreement is kept by every call of anybody: one clause a call. Assumes nothing.
+use Rattle.std.specs.Prelude.{Option, Ok, Err}
 use mathlib.Core.Path.{◌≡◌, sym, ap, subst, ◌∙◌}
 use mathlib.Core.Bool.{Bool, true, false, cond}
 use Prim.Native.Nat.{ℕ}
@@ -14,10 +15,8 @@ use Rattle.state.specs.State.{State, Waiting, after_move}
 use Rattle.state.specs.Valid.{record_ok, valid_with}
 use Rattle.model.specs.View.{Pending}
 use Rattle.model.specs.Change.{state_by}
-use Rattle.admission.specs.Admission.{admission_by, admission, is_bad_buffer, left_if}
+use Rattle.admission.specs.Admission.{admission_by, admission, is_bad_buffer, left_if, Admission}
 use Rattle.attribute_server.specs.Request.{Query, let_in, seen_of}
-use Rattle.admission.specs.declared.Admission.{Admission}
-use Rattle.admission.specs.declared.Admission.TheVariants.{Yes, No}
 use Rattle.secrecy.specs.Hub.{Hub, Asked, Deed, Process, Connect, Disconnect, Set, SetTable, Looks, Call, query_of, with_state, step_by, step}
 use Rattle.secrecy.specs.Valid.{Valid}
 use Rattle.secrecy.specs.Agree.{pending_at, AgreeOn, Agree}
@@ -39,8 +38,8 @@ both_left : {A : Type 0} (R : A → A → Type 0) (v w : Admission) → v ≡ w 
 both_left R v w e x y x' y' old new = subst (λ (u : Admission). R (left_if v x x') (left_if u y y')) e (by v)
   where
     by : (u : Admission) → R (left_if u x x') (left_if u y y')
-    by Yes = new
-    by (No n) = old
+    by (Ok tt) = new
+    by (Err n) = old
 
 sound : (x : Hub) → Valid x → Sound x.state
 sound x v = record { right = v.state; sized = v.sized }
@@ -60,12 +59,12 @@ module _ (t : Identity) (may : ℕ → Bool) (a b : Hub) (x : Valid a) (y : Vali
       }
 
   -- one move in both
-  move_agrees : (m m' : Move) → m ≡ m' → MoveSame t s z (sound a x) (sound b y) g.state.list g.state.row g.state.kept m
+  move_agrees : (m m' : Option Move) → m ≡ m' → MoveSame t s z (sound a x) (sound b y) g.state.list g.state.row g.state.kept m
       → Agree t may (with_state a (left_if (admission s who) s (after_move s m))) (with_state b (left_if (admission z who) z (after_move z m')))
   unfolding MoveSame
   move_agrees m m' e k =
       left_agrees (after_move s m) (after_move z m')
-      (subst (λ (n : Move). AgreeOn t may (after_move s m) (after_move z n)) e
+      (subst (λ (n : Option Move). AgreeOn t may (after_move s m) (after_move z n)) e
       (record { list = g.state.list; row = moved_same s.row z.row g.state.row m; shared = g.state.shared; kept = k }))
 
   -- a request: what is pending at its link is the same before it, and after it

@@ -1,11 +1,11 @@
 -- Another tablet's call leaves t's slots and their tables: what each call changes lies in a slot that is not t's, or in
 -- one that t does not hold while another connects. Assumes nothing.
+use Rattle.std.specs.Prelude.{Option, Some, None}
 use mathlib.Core.Path.{◌≡◌, refl, sym, ◌∙◌}
 use mathlib.Core.Bool.{Bool, true, false, true≢false}
 use mathlib.Core.List.{List}
 use mathlib.Core.Logic.{⊎_elim}
-use Prim.Native.Nat.{ℕ, ◌≤◌, ◌<◌}
-use native.Mathlib.Omega.{arith}
+use Prim.Native.Nat.{ℕ, ◌<◌}
 use lib.ListN.{length, get_or, set}
 use lib.Dec.{eqb}
 use borrow.Author.Tests.{eqb-true, eqb-false}
@@ -13,23 +13,21 @@ use Rattle.wire.specs.Test.{both}
 use Rattle.peers.specs.Identity.{same_id, is_empty}
 use Rattle.peers.specs.Slots.{matches, wanted, slot_of, taken, connecting, nobody, left, leaving, no_slot}
 use Rattle.peers.specs.declared.Seat.{Seat}
-use Rattle.peers.specs.declared.Seated.TheVariants.{At}
 use Rattle.peers.specs.declared.Identity.{Identity}
 use Rattle.peers.specs.declared.Slot.{Slot}
 use Rattle.peers.specs.declared.Move.{Move}
 use Rattle.peers.specs.declared.Want.TheVariants.{Usable, Free}
 use Rattle.peers.proofs.Laws.{matches_same, wanted_free, usable_own_or_empty, walk_placed, slot_inside}
 use Rattle.peers.proofs.Moves.{by_joining, by_leaving}
-use Rattle.peers.proofs.Changes.{OnlyAt, moved_only, new_slot, row_stays, kept_tables, table_set}
+use Rattle.peers.proofs.Changes.{OnlyAt, moved_only, new_slot, table_set}
 use Rattle.peers.proofs.Identities.{not_both, somebody_else, nobody_empty}
 use Rattle.state.specs.State.{State, state, after_move}
 use Rattle.model.specs.Change.{put_at}
 use Rattle.model.proofs.Leaving.{request_leaves_lem}
 use Rattle.application.specs.Calls.{restored}
 use Rattle.application.proofs.Leaving.{set_leaves}
-use Rattle.admission.specs.Admission.{admission, left_if}
+use Rattle.admission.specs.Admission.{admission, left_if, Admission}
 use Rattle.attribute_server.specs.Request.{seen_of, let_in}
-use Rattle.admission.specs.declared.Admission.{Admission}
 use Rattle.secrecy.specs.Hub.{Deed, Process, Connect, Disconnect, Set, SetTable, Looks, query_of, step_by}
 use Rattle.secrecy.specs.Untouched.{SameSlot, is_connect, Spared, KeptApart}
 use Rattle.secrecy.proofs.Own.{found_own, tables_put, tables_restored}
@@ -58,18 +56,18 @@ module _ (t : Identity) (connects : Bool) (s : State) where
           absurd (old (rw k at m) (rw k at f))
       before j m f false e = other j e
 
-  -- a move there, and one past the end of the row
-  SparedBy : Move → Type 0
+  -- a move there, and none
+  SparedBy : Option Move → Type 0
   SparedBy m = Spared t connects s (after_move s m)
 
-  move_apart : (m : Move) → m.place < length s.row → matches t m.slot ≡ false
-      → (matches t (get_or s.row m.place no_slot) ≡ true → both connects (eqb (get_or s.row m.place no_slot).connected 0) ≡ false → ⊥) → SparedBy m
+  move_apart : (m : Move) → m.seat.0 < length s.row → matches t m.slot ≡ false
+      → (matches t (get_or s.row m.seat.0 no_slot) ≡ true → both connects (eqb (get_or s.row m.seat.0 no_slot).connected 0) ≡ false → ⊥) → SparedBy (Some m)
   unfolding SparedBy
-  move_apart m l new old = at_one m.place (after_move s m) (moved_only s.row s.tables m) (rw (new_slot s.row m l) new) old
+  move_apart m l new old = at_one m.seat.0 (after_move s (Some m)) (moved_only s.row s.tables m) (rw (new_slot s.row m l) new) old
 
-  no_move_lem : (m : Move) → length s.row ≤ m.place → m.clears ≡ false → SparedBy m
+  no_move_lem : SparedBy None
   unfolding SparedBy
-  no_move_lem m h c = rw (row_stays s.row m h, kept_tables s.tables m c) (stays s.list s.store)
+  no_move_lem = stays s.list s.store
 
 -- `who` calls; t is another, and somebody
 module _ (t who : Identity) (some : is_empty t ≡ false) (other : same_id who t ≡ false) where
@@ -103,7 +101,7 @@ module _ (t who : Identity) (some : is_empty t ≡ false) (other : same_id who t
         (λ k u e.
         let w = walk_placed s.row who Free k e in
         move_apart t true s _ w.inside taken_not (λ m f. true≢false (sym w.passes ∙ wanted_free who _ ∙ f)))
-        (no_move_lem t true s _ (omega arith) refl)
+        (no_move_lem t true s)
 
     disconnect_apart : (bonded : Bool) → SparedBy t false s (leaving s.row who bonded)
     disconnect_apart bonded =
@@ -111,13 +109,13 @@ module _ (t who : Identity) (some : is_empty t ≡ false) (other : same_id who t
         (λ k e.
         let own = found_own s.row who k e in
         move_apart t false s _ (slot_inside s.row who k e) (left_not bonded _ own) (λ m f. true≢false (sym m ∙ own_not _ own)))
-        (no_move_lem t false s _ (omega arith) refl)
+        (no_move_lem t false s)
 
     -- a call of the table in who's slot
     abbrev Spares : List (List ℕ) → Type 0
     Spares ts = (list : List (List ℕ)) (store : List ℕ) → Spared t false s (state list store s.row ts)
 
-    table_apart : (k : Seat) → slot_of s.row who ≡ At k → (x : List ℕ) → Spares (set s.tables k.0 x)
+    table_apart : (k : Seat) → slot_of s.row who ≡ Some k → (x : List ℕ) → Spares (set s.tables k.0 x)
     table_apart k e x list store =
         let not_own = own_not (get_or s.row k.0 no_slot) (found_own s.row who k e) in
         at_one t false s k.0 (state list store s.row (set s.tables k.0 x)) (table_set k.0 s.row s.tables x) not_own (λ m f. true≢false (sym m ∙ not_own))

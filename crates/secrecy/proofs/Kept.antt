@@ -1,10 +1,11 @@
 -- What is kept for a tablet stays the same in two hubs: a change of one slot asks for that slot alone; a table's call
 -- makes one list of one list; and a table that is nobody's, or cleared, is the list's fresh one. Assumes nothing.
+use Rattle.std.specs.Prelude.{Option, Some, None}
 use mathlib.Core.Path.{◌≡◌, refl, sym, ap, ◌∙◌}
 use mathlib.Core.Bool.{Bool, true, false, not}
 use mathlib.Core.List.{List, [], map}
 use mathlib.Core.Logic.{⊎_elim}
-use Prim.Native.Nat.{ℕ, ◌≤◌, ◌<◌}
+use Prim.Native.Nat.{ℕ, ◌<◌}
 use native.Mathlib.Omega.{arith}
 use lib.Dec.{eqb}
 use lib.ListN.{length, get_or, set}
@@ -17,14 +18,13 @@ use Rattle.client_att_table.proofs.AsList.{call_list}
 use Rattle.peers.specs.Identity.{is_empty}
 use Rattle.peers.specs.Slots.{matches, wanted, slot_of, taken, connecting, left, leaving, row_moved, tables_moved, no_slot}
 use Rattle.peers.specs.declared.Seat.{Seat}
-use Rattle.peers.specs.declared.Seated.TheVariants.{At}
 use Rattle.peers.specs.declared.Identity.{Identity}
 use Rattle.peers.specs.declared.Slot.{Slot}
 use Rattle.peers.specs.declared.Move.{Move}
 use Rattle.peers.specs.declared.Want.TheVariants.{Usable, Free}
 use Rattle.peers.proofs.Laws.{matches_same, usable_own_or_empty, walk_placed, walk_inside, slot_inside}
 use Rattle.peers.proofs.Moves.{by_joining, by_leaving}
-use Rattle.peers.proofs.Changes.{OnlyAt, moved_only, new_slot, row_stays, clear_table, kept_tables, table_set}
+use Rattle.peers.proofs.Changes.{OnlyAt, moved_only, new_slot, clear_table, kept_tables, table_set}
 use Rattle.peers.proofs.Identities.{same_is}
 use Rattle.state.specs.State.{State}
 use Rattle.state.specs.Fresh.{fresh_table}
@@ -64,8 +64,8 @@ module _ (s : State) (x : Sound s) where
   read i l = (tables_read s x.right).read i (inside s x.right x.sized.tables i l)
 
   -- one that is cleared is the list's fresh one
-  emptied : (m : Move) → m.clears ≡ true → m.place < length s.row → get_or (tables_moved s.tables m) m.place [] ≡ fresh_table s.list
-  emptied m c l = clear_table s.tables m c (there m.place l) ∙ cleared_table s x.right x.sized.tables m.place l
+  emptied : (m : Move) → m.clears ≡ true → m.seat.0 < length s.row → get_or (tables_moved s.tables (Some m)) m.seat.0 [] ≡ fresh_table s.list
+  emptied m c l = clear_table s.tables m c (there m.seat.0 l) ∙ cleared_table s x.right x.sized.tables m.seat.0 l
 
 -- two states of which the same is known, and which keep the same for t
 module _ (t : Identity) (a b : State) (x : Sound a) (y : Sound b) (lists : map known_of a.list ≡ map known_of b.list) (rows : map holder_of a.row ≡ map holder_of b.row)
@@ -81,26 +81,26 @@ module _ (t : Identity) (a b : State) (x : Sound a) (y : Sound b) (lists : map k
       rw (get_or-set_same a.tables i (bytes_after (get_or a.tables i []) c) [] (there a x i l), get_or-set_same b.tables i (bytes_after (get_or b.tables i []) c) [] (there b y i (within i l)))
       (call_list (get_or a.tables i []) (read a x i l) c ∙ ap (λ xs. list_after xs c) (k i m) ∙ sym (call_list (get_or b.tables i []) (read b y i (within i l)) c)))
 
-  -- a move: one that clears, one that leaves the tables, and one past the end of the row
-  unfoldable pub MoveSame : Move → Type 0
+  -- a move: one that clears, one that leaves the tables, and none
+  unfoldable pub MoveSame : Option Move → Type 0
   MoveSame m = SameKept t (row_moved a.row m) (tables_moved a.tables m) (tables_moved b.tables m)
 
-  move_same : (m : Move) → (matches t (get_or (row_moved a.row m) m.place no_slot) ≡ true → view (get_or (tables_moved a.tables m) m.place []) ≡ view (get_or (tables_moved b.tables m) m.place [])) → MoveSame m
+  move_same : (m : Move) → (matches t (get_or (row_moved a.row (Some m)) m.seat.0 no_slot) ≡ true → view (get_or (tables_moved a.tables (Some m)) m.seat.0 []) ≡ view (get_or (tables_moved b.tables (Some m)) m.seat.0 [])) → MoveSame (Some m)
   unfolding MoveSame
   move_same m here =
-      at_one t m.place a.row _ b.row _ a.tables _ b.tables _ (moved_only a.row a.tables m) (moved_only b.row b.tables m) k here
+      at_one t m.seat.0 a.row _ b.row _ a.tables _ b.tables _ (moved_only a.row a.tables m) (moved_only b.row b.tables m) k here
 
-  emptied_same : (m : Move) → m.clears ≡ true → m.place < length a.row → MoveSame m
+  emptied_same : (m : Move) → m.clears ≡ true → m.seat.0 < length a.row → MoveSame (Some m)
   emptied_same m c l =
-      move_same m (λ o. ap view (emptied a x m c l ∙ fresh_same a.list b.list lists ∙ sym (emptied b y m c (within m.place l))))
+      move_same m (λ o. ap view (emptied a x m c l ∙ fresh_same a.list b.list lists ∙ sym (emptied b y m c (within m.seat.0 l))))
 
-  owned_same : (m : Move) → m.clears ≡ false → m.place < length a.row → (matches t m.slot ≡ true → view (get_or a.tables m.place []) ≡ view (get_or b.tables m.place [])) → MoveSame m
+  owned_same : (m : Move) → m.clears ≡ false → m.seat.0 < length a.row → (matches t m.slot ≡ true → view (get_or a.tables m.seat.0 []) ≡ view (get_or b.tables m.seat.0 [])) → MoveSame (Some m)
   owned_same m c l e =
       move_same m (λ o. rw (kept_tables a.tables m c, kept_tables b.tables m c) (e (rw (new_slot a.row m l) at o)))
 
-  stay_same : (m : Move) → m.clears ≡ false → length a.row ≤ m.place → MoveSame m
+  stay_same : MoveSame None
   unfolding MoveSame
-  stay_same m c h = rw (row_stays a.row m h, kept_tables a.tables m c, kept_tables b.tables m c) k
+  stay_same = k
 
   -- connecting: a slot that is usable, and its new owner
   usable_same : (who : Identity) (i : ℕ) → i < length a.row → wanted Usable who (get_or a.row i no_slot) ≡ true → matches t (taken who) ≡ true → view (get_or a.tables i []) ≡ view (get_or b.tables i [])
@@ -122,10 +122,10 @@ module _ (t : Identity) (a b : State) (x : Sound a) (y : Sound b) (lists : map k
       let w = walk_placed a.row who Usable at e in
       owned_same _ refl w.inside (usable_same who at.0 w.inside w.passes))
       (λ at u e. emptied_same _ refl (walk_inside a.row who Free at e))
-      (stay_same _ refl (omega arith))
+      stay_same
 
   -- leaving
-  left_same : (who : Identity) (bonded : Bool) (at : Seat) → slot_of a.row who ≡ At at → MoveSame (record { place = at.0; slot = left bonded (get_or a.row at.0 no_slot); clears = not bonded; full = false })
+  left_same : (who : Identity) (bonded : Bool) (at : Seat) → slot_of a.row who ≡ Some at → MoveSame (Some (record { seat = at; slot = left bonded (get_or a.row at.0 no_slot); clears = not bonded }))
   unfolding left
   left_same who true at e =
       let s = get_or a.row at.0 no_slot in
@@ -133,4 +133,4 @@ module _ (t : Identity) (a b : State) (x : Sound a) (y : Sound b) (lists : map k
   left_same who false at e = emptied_same _ refl (slot_inside a.row who at e)
 
   pub disconnect_same : (who : Identity) (bonded : Bool) → MoveSame (leaving a.row who bonded)
-  disconnect_same who bonded = by_leaving a.row who bonded MoveSame (left_same who bonded) (stay_same _ refl (omega arith))
+  disconnect_same who bonded = by_leaving a.row who bonded MoveSame (left_same who bonded) stay_same

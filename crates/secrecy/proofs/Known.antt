@@ -1,5 +1,6 @@
 -- What is known of a list decides where a handle lies, which needs and capacities its entries have, the table that it
 -- lays out, and what is known of it after a write. Assumes nothing.
+use Rattle.std.specs.Prelude.{Option, Ok, Err}
 use mathlib.Core.Path.{◌≡◌, refl, sym, ap, ◌∙◌}
 use mathlib.Core.Bool.{Bool, true, false, cond}
 use mathlib.Core.List.{List, [], ◌∷◌, map}
@@ -11,15 +12,14 @@ use Rattle.wire.specs.Walk.{place_in}
 use Rattle.table_builder.specs.AsList.{Push}
 use Rattle.attribute.specs.Record.{Entry, entry_of, attribute_of, with_length}
 use Rattle.attribute.specs.Lookup.{place_of, has_handle}
-use Rattle.attribute.specs.declared.Access.{Access}
-use Rattle.attribute.specs.declared.Access.TheVariants.{Granted, Denied}
 use Rattle.attribute.proofs.Kept.{fields_kept, known_kept}
-use Rattle.peers.specs.declared.Seated.{Seated}
 use Rattle.state.specs.State.{State}
 use Rattle.state.specs.Fresh.{clients_of, fresh_table}
 use Rattle.model.specs.Value.{write_rule}
 use Rattle.model.specs.Change.{if_granted, length_put, shared_list, put_at}
 use Rattle.secrecy.specs.Agree.{Known, known_of}
+use Rattle.attribute.specs.Needs.{Access}
+use Rattle.peers.specs.declared.Seat.{Seat}
 
 -- two lists with one picture
 module _ {A B : Type 0} (f : A → B) where
@@ -120,15 +120,15 @@ one_way : (c c' v v' : Bool) (g g' : Access) (l l' new new' : List (List ℕ)) �
 one_way c c' v v' g g' l l' new new' ec ev eg old e = rw (← ec, ← ev) (by c v eg e)
   where
     met : (v : Bool) (r : Access) → map known_of new ≡ map known_of new' → map known_of (if_granted r (cond v new l) l) ≡ map known_of (if_granted r (cond v new' l') l')
-    met v (Denied n) k = old
-    met true Granted k = k
-    met false Granted k = old
+    met v (Err n) k = old
+    met true (Ok tt) k = k
+    met false (Ok tt) k = old
 
     by : (c v : Bool) → (c ≡ false → g ≡ g') → (c ≡ false → map known_of new ≡ map known_of new') → map known_of (cond c l (if_granted g (cond v new l) l)) ≡ map known_of (cond c l' (if_granted g' (cond v new' l') l'))
     by true v h k = old
     by false v h k = rw (← h refl) (met v g (k refl))
 
-module _ (a b : State) (same : map known_of a.list ≡ map known_of b.list) (slot : Seated) (i off : ℕ) (d : List ℕ)
+module _ (a b : State) (same : map known_of a.list ≡ map known_of b.list) (slot : Option Seat) (i off : ℕ) (d : List ℕ)
     (size : length (get_or a.list i []) ≡ record_bytes) (size' : length (get_or b.list i []) ≡ record_bytes) where
   abbrev r : List ℕ
   r = get_or a.list i []

@@ -1,6 +1,7 @@
 -- The steps are the promises': whatever meets the contract of a call tells what `told` tells, and leaves the hub that
 -- `step` leaves. Each law takes the proposition of the call's contract as it stands there; calls that only look are one
 -- step of nothing. Assumes nothing.
+use Rattle.std.specs.Prelude.{Result}
 use mathlib.Core.Path.{◌≡◌, ap, subst}
 use mathlib.Core.Bool.{Bool}
 use mathlib.Core.List.{List, []}
@@ -12,7 +13,6 @@ use Rattle.attribute.specs.declared.Wish.{Wish}
 use Rattle.peers.specs.declared.Identity.{Identity}
 use Rattle.state.specs.State.{State}
 use Rattle.model.specs.Told.{told_answer, Answered}
-use Rattle.model.specs.declared.Answer.{Answer}
 use Rattle.attribute_server.specs.Connection.{connect_told, connect_left, disconnect_told, disconnect_left}
 use Rattle.attribute_server.specs.Request.{process_told, process_left, process_waits}
 use Rattle.attribute_server.specs.Value.{get_told, set_told, set_left, can_told}
@@ -20,17 +20,19 @@ use Rattle.attribute_server.specs.Subscription.{subscribed_told}
 use Rattle.attribute_server.specs.Table.{fetched_told, restored_told, restored_left}
 use Rattle.secrecy.specs.Hub.{Hub, Asked, Deed, Process, Connect, Disconnect, Set, SetTable, Looks, Get, Can, ShouldNotify, ShouldIndicate, GetTable, query_of, told_by, look_told, with_state, with_waiting, step_by}
 use Rattle.secrecy.specs.Secret.{RunEnd, Keeps}
+use Rattle.model.specs.declared.Answer.{Answer}
+use Rattle.model.specs.declared.CallError.{CallError}
 
 module _ (x : Hub) (who : Identity) where
   -- an answer without a buffer, one with a buffer, and an answer with the state that is left
   abbrev pub Tells : Told → Deed → Type 0
-  Tells t d = (r : Answer) → told_answer [] r ≡ t → told_answer [] r ≡ told_by x who d
+  Tells t d = (r : Result Answer CallError) → told_answer [] r ≡ t → told_answer [] r ≡ told_by x who d
 
   abbrev pub Fills : List ℕ → Told → Deed → Type 0
-  Fills out t d = (new : List ℕ) (r : Answer) → Answered out new r t → Answered out new r (told_by x who d)
+  Fills out t d = (new : List ℕ) (r : Result Answer CallError) → Answered out new r t → Answered out new r (told_by x who d)
 
   abbrev pub Leaves : Told → State → Deed → Type 0
-  Leaves t left d = (r : Answer) (s : State) → (told_answer [] r ≡ t) × (s ≡ left) → (told_answer [] r ≡ told_by x who d) × (with_state x s ≡ step_by x who d)
+  Leaves t left d = (r : Result Answer CallError) (s : State) → (told_answer [] r ≡ t) × (s ≡ left) → (told_answer [] r ≡ told_by x who d) × (with_state x s ≡ step_by x who d)
 
   pub connect_is : Leaves (connect_told x.state who) (connect_left x.state who) Connect
   unfolding told_by step_by

@@ -1,5 +1,6 @@
 -- Whose each slot is, and who is connected, decides which slot a peer has, which one it gets, and what becomes of it.
 -- Assumes nothing.
+use Rattle.std.specs.Prelude.{Option, Some, None}
 use mathlib.Core.Path.{◌≡◌, refl, ap, ◌∙◌}
 use mathlib.Core.Bool.{Bool, true, false, cond, not}
 use mathlib.Core.List.{List, map}
@@ -9,10 +10,9 @@ use lib.ListN.{length, get_or}
 use Rattle.peers.specs.Identity.{same_id, is_empty}
 use Rattle.peers.specs.Slots.{matches, wanted, walk, seated_at, slot_of, joined, connecting, left, parted, leaving, row_moved, no_slot}
 use Rattle.peers.specs.declared.Identity.{Identity}
-use Rattle.peers.specs.declared.Seated.{Seated}
-use Rattle.peers.specs.declared.Seated.TheVariants.{At, Nothing}
 use Rattle.peers.specs.declared.Slot.{Slot}
 use Rattle.peers.specs.declared.Move.{Move}
+use Rattle.peers.specs.declared.Seat.{Seat}
 use Rattle.peers.specs.declared.Want.{Want}
 use Rattle.peers.specs.declared.Want.TheVariants.{Own, Usable, Free}
 use Rattle.secrecy.specs.Agree.{Holder, holder_of}
@@ -54,21 +54,22 @@ module _ (row row' : List Slot) (same : map holder_of row ≡ map holder_of row'
   -- one move of whoever connects, and of whoever leaves
   pub connecting_same : (who : Identity) → connecting row who ≡ connecting row' who
   unfolding connecting
-  connecting_same who = λ i. joined (slots_same i) who (found_same Usable who i) (found_same Free who i)
+  connecting_same who = λ i. joined who (found_same Usable who i) (found_same Free who i)
 
   left_same : (bonded : Bool) (i : ℕ) → left bonded (get_or row i no_slot) ≡ left bonded (get_or row' i no_slot)
   unfolding left
   left_same true i = λ j. record { id = id_same i j; connected = 0 }
   left_same false i = refl
 
-  parted_same : (bonded : Bool) (f : Seated) → parted row bonded f ≡ parted row' bonded f
-  parted_same bonded (At k) = ap (λ (s : Slot). record { place = k.0; slot = s; clears = not bonded; full = false }) (left_same bonded k.0)
-  parted_same bonded Nothing = rw slots_same
+  parted_same : (bonded : Bool) (f : Option Seat) → parted row bonded f ≡ parted row' bonded f
+  parted_same bonded (Some k) = ap (λ (s : Slot). Some (record { seat = k; slot = s; clears = not bonded })) (left_same bonded k.0)
+  parted_same bonded None = refl
 
   pub leaving_same : (who : Identity) (bonded : Bool) → leaving row who bonded ≡ leaving row' who bonded
   unfolding leaving
   leaving_same who bonded = parted_same bonded (slot_of row who) ∙ ap (parted row' bonded) (slot_same who)
 
   -- and the rows after a move
-  pub moved_same : (m : Move) → map holder_of (row_moved row m) ≡ map holder_of (row_moved row' m)
-  moved_same m = set_same holder_of row row' same m.place m.slot m.slot refl
+  pub moved_same : (m : Option Move) → map holder_of (row_moved row m) ≡ map holder_of (row_moved row' m)
+  moved_same (Some m) = set_same holder_of row row' same m.seat.0 m.slot m.slot refl
+  moved_same None = same

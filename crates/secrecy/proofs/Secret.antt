@@ -1,4 +1,5 @@
 -- Demand 3, by induction over the calls. Assumes nothing.
+use Rattle.std.specs.Prelude.{Option, Some, None, Ok, Err}
 use mathlib.Core.Path.{◌≡◌, refl, sym, ap, ap₂, subst, ◌∙◌}
 use mathlib.Core.Bool.{Bool, true, false, cond}
 use mathlib.Core.List.{List, [], ◌∷◌, ◌++◌}
@@ -9,13 +10,9 @@ use lib.ListN.{length, get_or}
 use Rattle.wire.proofs.Tests.{both_l, both_r, both_true}
 use Rattle.table_view.specs.Told.{Told}
 use Rattle.table_view.specs.View.{view}
-use Rattle.attribute.specs.Needs.{access_of}
-use Rattle.attribute.specs.declared.Access.{Access}
-use Rattle.attribute.specs.declared.Access.TheVariants.{Granted, Denied}
+use Rattle.attribute.specs.Needs.{access_of, Access}
 use Rattle.peers.specs.Identity.{same_id}
 use Rattle.peers.specs.Slots.{slot_of}
-use Rattle.peers.specs.declared.Seated.{Seated}
-use Rattle.peers.specs.declared.Seated.TheVariants.{At, Nothing}
 use Rattle.peers.specs.declared.Identity.{Identity}
 use Rattle.state.specs.State.{State}
 use Rattle.state.proofs.Keeping.{right_list}
@@ -41,6 +38,8 @@ use Rattle.secrecy.proofs.Waiting.{told_settled, no_bytes}
 use Rattle.secrecy.proofs.Valid.{step_valid, all_valid}
 use Rattle.secrecy.proofs.Promised.{process_is}
 use Rattle.secrecy.proofs.Agree.{let_in_same, step_agrees}
+use Rattle.peers.specs.declared.Seat.{Seat}
+use Rattle.wire.specs.declared.att.AttError.TheVariants.{ReadNotPermitted}
 
 -- every answer but Find By Type Value's comes from the view
 by_view : (v : View) (list list' : List (List ℕ)) (store store' : List ℕ) (room : ℕ) (rq : Request) (d : List ℕ) → is_compared rq ≡ true → request_told v list store room rq d ≡ request_told v list' store' room rq d
@@ -63,14 +62,14 @@ module _ (t : Identity) (may : ℕ → Bool) (a b : Hub) (x : Valid a) (y : Vali
   unfolding table_at
   own_same = rw (← slot_same s.row z.row g.state.row t) (by (slot_of s.row t) refl)
     where
-      by : (f : Seated) → slot_of s.row t ≡ f → view (table_at s.tables f) ≡ view (table_at z.tables f)
-      by Nothing e = refl
-      by (At k) e = g.state.kept k.0 (found_own s.row t k e)
+      by : (f : Option Seat) → slot_of s.row t ≡ f → view (table_at s.tables f) ≡ view (table_at z.tables f)
+      by None e = refl
+      by (Some k) e = g.state.kept k.0 (found_own s.row t k e)
 
   entries_same : length s.list ≡ length z.list
   entries_same = length_same known_of s.list z.list g.state.list
 
-  module _ (q : Asked) (reach : (need : ℕ) → access_of q.level 0x02 need ≡ Granted → may need ≡ true) where
+  module _ (q : Asked) (reach : (need : ℕ) → access_of q.level ReadNotPermitted need ≡ (Ok tt) → may need ≡ true) where
     alike : (i : ℕ) → i < length s.list → Alike q.level (get_or s.list i []) (get_or z.list i []) s.store z.store
     alike i l =
         let f = fields_same s.list z.list g.state.list i in
@@ -112,11 +111,11 @@ module _ (t : Identity) (may : ℕ → Bool) (a b : Hub) (x : Valid a) (y : Vali
         ∙ sym (by_seen b y))
 
 -- a request is one of t's
-granted : (r : Access) → r ≡ Granted → is_granted r ≡ true
-granted Granted e = refl
-granted (Denied c) e = cc
+granted : (r : Access) → r ≡ (Ok tt) → is_granted r ≡ true
+granted (Ok tt) e = refl
+granted (Err c) e = cc
 
-told_same : (t : Identity) (may : ℕ → Bool) (a b : Hub) → Valid a → Valid b → Agree t may a b → (d : Deed) → ((need : ℕ) → is_request (λ q. is_granted (access_of q.level 0x02 need)) d ≡ true → may need ≡ true)
+told_same : (t : Identity) (may : ℕ → Bool) (a b : Hub) → Valid a → Valid b → Agree t may a b → (d : Deed) → ((need : ℕ) → is_request (λ q. is_granted (access_of q.level ReadNotPermitted need)) d ≡ true → may need ≡ true)
     → is_request (λ q. is_compared q.request) d ≡ true → told_by a t d ≡ told_by b t d
 unfolding is_request
 told_same t may a b x y g (Process q) reach e = answer_same t may a b x y g q (λ need r. reach need (granted _ r)) e

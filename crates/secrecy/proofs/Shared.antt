@@ -1,5 +1,6 @@
 -- A write keeps two states in agreement, whoever's it is: what is known of the list afterwards is decided by what was
 -- known of it, a shared value by that value, and a table's list by that list. Assumes nothing.
+use Rattle.std.specs.Prelude.{Option, Some}
 use mathlib.Core.Path.{◌≡◌, refl, sym, ap, subst, ◌∙◌}
 use mathlib.Core.Bool.{Bool, true, false}
 use mathlib.Core.List.{List, [], map}
@@ -15,8 +16,6 @@ use Rattle.attribute.specs.Rules.{list_ok}
 use Rattle.attribute.specs.declared.Link.{Link}
 use Rattle.peers.specs.Slots.{slot_of}
 use Rattle.peers.specs.declared.Seat.{Seat}
-use Rattle.peers.specs.declared.Seated.{Seated}
-use Rattle.peers.specs.declared.Seated.TheVariants.{At}
 use Rattle.peers.specs.declared.Identity.{Identity}
 use Rattle.peers.proofs.Laws.{slot_inside}
 use Rattle.state.specs.State.{State, with_tables}
@@ -34,9 +33,10 @@ use Rattle.secrecy.proofs.Known.{SameFields, entry_fields, length_same, places_s
 use Rattle.secrecy.proofs.Rows.{slot_same}
 use Rattle.secrecy.proofs.Own.{both_put, both_restored}
 use Rattle.secrecy.proofs.Kept.{SameKept, Sound, call_same}
+use Rattle.wire.specs.declared.att.AttError.TheVariants.{WriteNotPermitted}
 
 module _ (t : Identity) (may : ℕ → Bool) (a b : State) (x : Sound a) (y : Sound b) (same : AgreeOn t may a b) (who : Identity) where
-  abbrev slot : Seated
+  abbrev slot : Option Seat
   slot = slot_of a.row who
 
   own : slot_of a.row who ≡ slot_of b.row who
@@ -49,7 +49,7 @@ module _ (t : Identity) (may : ℕ → Bool) (a b : State) (x : Sound a) (y : So
   within i l = omega (arith, length_same known_of a.list b.list same.list)
 
   -- a call of the table in the slot of a peer
-  at_slot : (k : Seat) → slot ≡ At k → (c : TableCall) → SameKept t a.row (set a.tables k.0 (bytes_after (get_or a.tables k.0 []) c)) (set b.tables k.0 (bytes_after (get_or b.tables k.0 []) c))
+  at_slot : (k : Seat) → slot ≡ Some k → (c : TableCall) → SameKept t a.row (set a.tables k.0 (bytes_after (get_or a.tables k.0 []) c)) (set b.tables k.0 (bytes_after (get_or b.tables k.0 []) c))
   at_slot k e c = call_same t a b x y same.list same.row same.kept k.0 (slot_inside a.row who k e) c
 
   -- `set_client_att_table`
@@ -127,10 +127,10 @@ module _ (t : Identity) (may : ℕ → Bool) (a b : State) (x : Sound a) (y : So
 
   pub asked_same : (link : Link) (w : Pending) (rq : Request) (d : List ℕ) → AgreeOn t may (state_by link a (slot_of a.row who) w rq d) (state_by link b (slot_of b.row who) w rq d)
   asked_same link w rq d =
-      subst (λ (f : Seated). AgreeOn t may (state_by link a slot w rq d) (state_by link b f w rq d)) own
-      (requests.both_leave link a b slot (AgreeOn t may) same (places_same a.list b.list same.list) (λ i. ap (access_of link 0x03) (fields i).writes) (λ i l m off e. put_same i l off e) w rq d)
+      subst (λ (f : Option Seat). AgreeOn t may (state_by link a slot w rq d) (state_by link b f w rq d)) own
+      (requests.both_leave link a b slot (AgreeOn t may) same (places_same a.list b.list same.list) (λ i. ap (access_of link WriteNotPermitted) (fields i).writes) (λ i l m off e. put_same i l off e) w rq d)
 
   pub stored_same : (h : ℕ) (d : List ℕ) → AgreeOn t may (store_left a (slot_of a.row who) (place_of a.list h) d) (store_left b (slot_of b.row who) (place_of b.list h) d)
   stored_same h d =
-      subst (λ (f : Seated). AgreeOn t may (store_left a slot (place_of a.list h) d) (store_left b f (place_of b.list h) d)) own
+      subst (λ (f : Option Seat). AgreeOn t may (store_left a slot (place_of a.list h) d) (store_left b f (place_of b.list h) d)) own
       (sets.both_leave a b slot d (AgreeOn t may) same (places_same a.list b.list same.list) (wrong_same (length d)) (λ i l. put_same i l 0 d) h)

@@ -1,5 +1,6 @@
 -- Sizes are kept: whatever is called, each record and each table is as long as it was, and so are the prepared bytes.
 -- Assumes nothing.
+use Rattle.std.specs.Prelude.{Option, Some, None, Ok, Err}
 use mathlib.Core.Path.{◌≡◌, refl, ◌∙◌}
 use mathlib.Core.Bool.{Bool, true, false, cond}
 use mathlib.Core.List.{List, [], ◌∷◌}
@@ -12,12 +13,8 @@ use Rattle.client_att_table.specs.AsList.{TableCall, bytes_after}
 use Rattle.client_att_table.proofs.Clearing.{clear_length}
 use Rattle.client_att_table.proofs.AsList.{call_length}
 use Rattle.attribute.specs.Lookup.{place_of}
-use Rattle.attribute.specs.declared.Access.{Access}
-use Rattle.attribute.specs.declared.Access.TheVariants.{Granted, Denied}
 use Rattle.attribute.specs.declared.Link.{Link}
 use Rattle.peers.specs.declared.Seat.{Seat}
-use Rattle.peers.specs.declared.Seated.{Seated}
-use Rattle.peers.specs.declared.Seated.TheVariants.{At}
 use Rattle.peers.specs.declared.Slot.{Slot}
 use Rattle.peers.specs.declared.Move.{Move}
 use Rattle.state.specs.State.{State, state, with_tables, after_move}
@@ -34,11 +31,10 @@ use Rattle.model.specs.declared.Change.TheVariants.{Write, WriteCommand, Prepare
 use Rattle.model.proofs.Leaving.{request_leaves_lem}
 use Rattle.application.specs.Calls.{store_left, restored}
 use Rattle.application.proofs.Leaving.{set_leaves}
-use Rattle.admission.specs.Admission.{left_if}
-use Rattle.admission.specs.declared.Admission.{Admission}
-use Rattle.admission.specs.declared.Admission.TheVariants.{Yes, No}
+use Rattle.admission.specs.Admission.{left_if, Admission}
 use Rattle.secrecy.specs.Valid.{Sized}
 use Rattle.secrecy.proofs.Own.{tables_put, tables_restored}
+use Rattle.attribute.specs.Needs.{Access}
 
 -- what holds of both ways holds of the one that is taken
 module _ {A : Type 0} (P : A → Type 0) where
@@ -47,12 +43,12 @@ module _ {A : Type 0} (P : A → Type 0) where
   either false x y p q = q
 
   granted : (r : Access) (x y : A) → P x → P y → P (if_granted r x y)
-  granted Granted x y p q = p
-  granted (Denied c) x y p q = q
+  granted (Ok tt) x y p q = p
+  granted (Err c) x y p q = q
 
   pub left_either : (d : Admission) (x y : A) → P x → P y → P (left_if d x y)
-  left_either Yes x y p q = q
-  left_either (No a) x y p q = p
+  left_either (Ok tt) x y p q = q
+  left_either (Err a) x y p q = p
 
 -- each part is as long
 abbrev SameSizes : List (List ℕ) → List (List ℕ) → Type 0
@@ -74,13 +70,14 @@ module _ (s : State) (z : Sized s) where
   other_tables : (row : List Slot) (ts : List (List ℕ)) → SameSizes s.tables ts → Sized (state s.list s.store row ts)
   other_tables row ts e = record { records = z.records; tables = λ i h. e i ∙ z.tables i h }
 
-  pub moved_sized : (m : Move) → Sized (after_move s m)
-  moved_sized m =
+  pub moved_sized : (m : Option Move) → Sized (after_move s m)
+  moved_sized None = z
+  moved_sized (Some m) =
       other_tables _ _
-      (either (SameSizes s.tables) m.clears _ _ (set_sizes s.tables m.place (cleared (get_or s.tables m.place [])) (clear_length (get_or s.tables m.place []))) (λ j. refl))
+      (either (SameSizes s.tables) m.clears _ _ (set_sizes s.tables m.seat.0 (cleared (get_or s.tables m.seat.0 [])) (clear_length (get_or s.tables m.seat.0 []))) (λ j. refl))
 
-  module _ (slot : Seated) where
-    called : (k : Seat) → slot ≡ At k → (c : TableCall) → SameSizes s.tables (set s.tables k.0 (bytes_after (get_or s.tables k.0 []) c))
+  module _ (slot : Option Seat) where
+    called : (k : Seat) → slot ≡ Some k → (c : TableCall) → SameSizes s.tables (set s.tables k.0 (bytes_after (get_or s.tables k.0 []) c))
     called k e c = set_sizes s.tables k.0 _ (call_length (get_or s.tables k.0 []) c)
 
     pub restored_sized : (saved : List ℕ) → Sized (with_tables s (restored s.tables slot saved))

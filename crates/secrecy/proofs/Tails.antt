@@ -1,5 +1,6 @@
 -- No letter of an old code is left: a fresh table has none, a table's call leaves none, and a hub's call is at most one
 -- call of one table. Assumes nothing.
+use Rattle.std.specs.Prelude.{Option, Some, None}
 use mathlib.Core.Path.{◌≡◌, refl, sym, ap, ◌∙◌}
 use mathlib.Core.Bool.{Bool, true, false}
 use mathlib.Core.List.{List, [], ◌∷◌, append-nil}
@@ -24,8 +25,6 @@ use Rattle.peers.specs.Slots.{slot_of, connecting, leaving}
 use Rattle.peers.specs.declared.Identity.{Identity}
 use Rattle.peers.specs.declared.Move.{Move}
 use Rattle.peers.specs.declared.Seat.{Seat}
-use Rattle.peers.specs.declared.Seated.{Seated}
-use Rattle.peers.specs.declared.Seated.TheVariants.{At, Nothing}
 use Rattle.peers.proofs.Laws.{slot_inside}
 use Rattle.state.specs.State.{State, after_move}
 use Rattle.state.specs.Fresh.{fresh_table, new_told}
@@ -38,8 +37,7 @@ use Rattle.model.specs.Change.{put_at}
 use Rattle.model.proofs.Leaving.{request_leaves_lem}
 use Rattle.application.specs.Calls.{table_told}
 use Rattle.application.proofs.Leaving.{set_leaves}
-use Rattle.admission.specs.Admission.{admission_by, admission, told_if, left_if}
-use Rattle.admission.specs.declared.Admission.{Admission}
+use Rattle.admission.specs.Admission.{admission_by, admission, told_if, left_if, Admission}
 use Rattle.attribute_server.specs.Request.{seen_of, let_in}
 use Rattle.attribute_server.specs.Table.{fetched_told}
 use Rattle.numbers.specs.Reply.{reply_to}
@@ -76,10 +74,11 @@ module _ (s : State) (z : AllZero s.tables) where
   called : (k : Seat) (c : TableCall) → AllZero (set s.tables k.0 (bytes_after (get_or s.tables k.0 []) c))
   called k c = each_set (λ j. ZeroTails) s.tables k.0 _ (λ h. call_tails _ (z k.0) c) z
 
-  moved : valid s ≡ true → (m : Move) → AllZero (after_move s m).tables
-  moved v m =
+  moved : valid s ≡ true → (m : Option Move) → AllZero (after_move s m).tables
+  moved v None = z
+  moved v (Some m) =
       either AllZero m.clears _ _
-      (each_set (λ j. ZeroTails) s.tables m.place _ (λ h. cleared_tails _ ((tables_read s v).read m.place (omega (arith, eight_tables s v)))) z) z
+      (each_set (λ j. ZeroTails) s.tables m.seat.0 _ (λ h. cleared_tails _ ((tables_read s v).read m.seat.0 (omega (arith, eight_tables s v)))) z) z
 
 abbrev Zero : State → Type 0
 Zero s = AllZero s.tables
@@ -89,7 +88,7 @@ module _ (x : Hub) (v : Valid x) (z : Zero x.state) (who : Identity) where
   abbrev s : State
   s = x.state
 
-  abbrev slot : Seated
+  abbrev slot : Option Seat
   slot = slot_of s.row who
 
   -- refused or let in
@@ -129,14 +128,14 @@ module _ (x : Hub) (v : Valid x) (z : Zero x.state) where
   told_of : (who : Identity) (bs : List ℕ) → fetched_told x.state who ≡ value bs → ToldOf x.state bs
   told_of who bs e = by (slot_of x.state.row who) refl (let_in_told (valid x.state) false (is_bad who) _ bs e)
     where
-      by : (f : Seated) → slot_of x.state.row who ≡ f → table_told x.state.tables f ≡ value bs → ToldOf x.state bs
-      by (At k) f t =
+      by : (f : Option Seat) → slot_of x.state.row who ≡ f → table_told x.state.tables f ≡ value bs → ToldOf x.state bs
+      by (Some k) f t =
           record {
             k = k.0;
             inside = omega (arith, slot_inside x.state.row who k f, eight_slots x.state v.state);
             is = cc;
           }
-      by Nothing f t = let n : ◌≡◌ {A = ℕ} 0 1 = cc in absurd (omega arith)
+      by None f t = let n : ◌≡◌ {A = ℕ} 0 1 = cc in absurd (omega arith)
 
   table_zero : (who : Identity) (bs : List ℕ) → fetched_told x.state who ≡ value bs → ZeroTails bs
   table_zero who bs e = let t = told_of who bs e in rw (← t.is) (z t.k)

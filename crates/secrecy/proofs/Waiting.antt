@@ -1,5 +1,6 @@
 -- What is pending at a link: under handle 0 nobody looks at the offset, and after a request it is decided by what was
 -- pending and by the request. Assumes nothing.
+use Rattle.std.specs.Prelude.{Option, Ok, Err}
 use mathlib.Core.Path.{◌≡◌, refl, sym, ap, ◌∙◌}
 use mathlib.Core.Bool.{Bool, true, false, cond}
 use mathlib.Core.List.{List, [], ◌++◌}
@@ -11,10 +12,7 @@ use lib.Seq.{sets, sets-eq, length-take-le, take-append_seam}
 use borrow.Author.Tests.{eqb-true, leb-true}
 use Rattle.wire.specs.Size.{value_bytes}
 use Rattle.wire.proofs.Tests.{both_l, both_r, both_false_r}
-use Rattle.attribute.specs.declared.Access.{Access}
-use Rattle.attribute.specs.declared.Access.TheVariants.{Granted, Denied}
 use Rattle.attribute.specs.declared.Link.{Link}
-use Rattle.peers.specs.declared.Seated.{Seated}
 use Rattle.state.specs.State.{State, Waiting, waiting}
 use Rattle.state.specs.Valid.{record_ok}
 use Rattle.state.specs.declared.Prepared.{Prepared}
@@ -28,6 +26,9 @@ use Rattle.model.specs.declared.Change.TheVariants.{Write, WriteCommand, Prepare
 use Rattle.preparing.proofs.Preparing.{granted_fits}
 use Rattle.attribute_server.specs.Request.{Query, waiting_by}
 use Rattle.secrecy.specs.Agree.{nothing, settled, pending_at}
+use Rattle.attribute.specs.Needs.{Access}
+use Rattle.peers.specs.declared.Seat.{Seat}
+use Rattle.wire.specs.declared.att.AttError.TheVariants.{InvalidHandle}
 
 -- what is the same of nothing and of what stands under handle 0, is the same once that is settled
 settles : {X : Type 0} (f : Pending → X) (w : Pending) → (eqb w.handle 0 ≡ true → f w ≡ f nothing) → f w ≡ f (settled w)
@@ -65,7 +66,7 @@ module _ (w : Pending) (empty : eqb w.handle 0 ≡ true → w.bytes ≡ []) wher
     pub told_settled : (list : List (List ℕ)) (store : List ℕ) (room : ℕ) (rq : Request) (d : List ℕ) → request_told (seen w) list store room rq d ≡ request_told (seen (settled w)) list store room rq d
     told_settled list store room rq d = settles (λ (u : Pending). request_told (seen u) list store room rq d) w (told_nothing list store room rq d)
 
-  module _ (link : Link) (s : State) (slot : Seated) (d : List ℕ) where
+  module _ (link : Link) (s : State) (slot : Option Seat) (d : List ℕ) where
     change_nothing : (e : eqb w.handle 0 ≡ true) (c : Change) → state_after link s slot w c d ≡ state_after link s slot nothing c d
     unfolding state_after
     change_nothing e (Write h) = refl
@@ -136,11 +137,11 @@ module _ (p : Prepared) (ok : record_ok p ≡ true) (bytes : List ℕ) (size : l
   holds = omega (arith, leb-true p.len value_bytes (both_l _ _ ok), size)
 
   module _ (d : List ℕ) where
-    some_handle : (h off n : ℕ) → may_prepare p h off n ≡ Granted → eqb h 0 ≡ false
+    some_handle : (h off n : ℕ) → may_prepare p h off n ≡ (Ok tt) → eqb h 0 ≡ false
     unfolding prepare_rule
     some_handle h off n e = by (eqb h 0) _ e
       where
-        by : (t : Bool) (r : Access) → cond t (Denied 0x01) r ≡ Granted → t ≡ false
+        by : (t : Bool) (r : Access) → cond t (Err InvalidHandle) r ≡ (Ok tt) → t ≡ false
         by true r e = cc
         by false r e = refl
 
@@ -148,10 +149,10 @@ module _ (p : Prepared) (ok : record_ok p ≡ true) (bytes : List ℕ) (size : l
         → pending_at (waiting (if_granted r (longer p h off (length d)) p) (if_granted r (sets bytes p.len d) bytes))
         ≡ if_granted r (record { handle = h; offset = cond (eqb p.handle 0) off p.offset; bytes = take p.len bytes ++ d }) (settled (pending_of p bytes))
     unfolding longer
-    prepared h off Granted e =
+    prepared h off (Ok tt) e =
         let f = granted_fits p h off (length d) e in
         rw (some_handle h off (length d) e, appended p.len d bytes (omega arith))
-    prepared h off (Denied c) e = refl
+    prepared h off (Err c) e = refl
 
     changed_is : (c : Change) → pending_at (waiting (record_after p c (length d)) (data_after p bytes c d)) ≡ change_leaves (pending_of p bytes) c d
     unfolding record_after data_after change_leaves

@@ -1,5 +1,6 @@
 -- A shared value, its length and its entry change by a request whose link meets the need for writing, and by `set`: no
 -- other call touches them. Assumes nothing.
+use Rattle.std.specs.Prelude.{Option, Ok}
 use Prim.Native.Nat.{ℕ, ◌<◌}
 use mathlib.Core.Path.{◌≡◌, refl}
 use mathlib.Core.Bool.{false}
@@ -7,10 +8,8 @@ use mathlib.Core.List.{List}
 use native.Mathlib.Omega.{arith}
 use lib.ListN.{length}
 use Rattle.attribute.specs.Needs.{may_write}
-use Rattle.attribute.specs.declared.Access.TheVariants.{Granted}
 use Rattle.attribute.specs.declared.Link.{Link}
 use Rattle.peers.specs.Slots.{slot_of}
-use Rattle.peers.specs.declared.Seated.{Seated}
 use Rattle.peers.specs.declared.Identity.{Identity}
 use Rattle.peers.specs.declared.Slot.{Slot}
 use Rattle.state.specs.State.{State, state}
@@ -18,15 +17,15 @@ use Rattle.state.proofs.Keeping.{right_list}
 use Rattle.model.specs.Change.{put_at}
 use Rattle.model.proofs.Leaving.{request_leaves_lem}
 use Rattle.storing.proofs.Shared.{entry_stays, value_stays}
-use Rattle.admission.specs.Admission.{admission, left_if}
+use Rattle.admission.specs.Admission.{admission, left_if, Admission}
 use Rattle.attribute_server.specs.Request.{seen_of, let_in}
-use Rattle.admission.specs.declared.Admission.{Admission}
 use Rattle.secrecy.specs.Hub.{Hub, Deed, Process, Connect, Disconnect, Set, SetTable, Looks, query_of, step_by}
 use Rattle.secrecy.specs.Valid.{Valid}
 use Rattle.secrecy.specs.Agree.{attribute_at}
 use Rattle.secrecy.specs.Secret.{is_granted}
 use Rattle.secrecy.specs.Untouched.{may_change, SameShared, WrittenByRight}
 use Rattle.secrecy.proofs.Sizes.{left_either}
+use Rattle.peers.specs.declared.Seat.{Seat}
 
 module _ (x : Hub) (v : Valid x) (i : ℕ) (l : i < length x.state.list) where
   abbrev s : State
@@ -44,14 +43,14 @@ module _ (x : Hub) (v : Valid x) (i : ℕ) (l : i < length x.state.list) where
   left d s' new = left_either Same d s s' (untouched s.row s.tables) new
 
   -- a link that may not write there: what it writes goes to a place whose need is met, so elsewhere
-  module _ (link : Link) (not : is_granted (may_write (attribute_at s i) link) ≡ false) (slot : Seated) where
-    elsewhere : (j : ℕ) → may_write (attribute_at s j) link ≡ Granted → i ≡ j → ⊥
+  module _ (link : Link) (not : is_granted (may_write (attribute_at s i) link) ≡ false) (slot : Option Seat) where
+    elsewhere : (j : ℕ) → may_write (attribute_at s j) link ≡ (Ok tt) → i ≡ j → ⊥
     elsewhere j e p =
         let q = rw (p, e) at not in
         let z : ◌≡◌ {A = ℕ} 0 1 = cc in
         absurd (omega arith)
 
-    at_place_lem : (j : ℕ) → j < length s.list → may_write (attribute_at s j) link ≡ Granted → (off : ℕ) (d : List ℕ) → Same (put_at s slot j off d)
+    at_place_lem : (j : ℕ) → j < length s.list → may_write (attribute_at s j) link ≡ (Ok tt) → (off : ℕ) (d : List ℕ) → Same (put_at s slot j off d)
     at_place_lem j m e off d =
         let ok = right_list s v.state in
         record {

@@ -1,22 +1,23 @@
 -- Demand 3: two hubs that agree on all that tablet t may see, given the same calls in the same order, answer every
 -- request of t with the same bytes and count. Assumes nothing.
-use Rattle.std.specs.Prelude.{ℕ, ◌≡◌, Bool, true, false, cond, List, [], ◌∷◌, ◌++◌, length}
+use Rattle.std.specs.Prelude.{ℕ, ◌≡◌, Bool, true, false, cond, List, [], ◌∷◌, ◌++◌, length, Result}
 use Rattle.wire.specs.Test.{both}
 use Rattle.wire.specs.Run.{after_all}
 use Rattle.table_view.specs.Told.{Told}
-use Rattle.attribute.specs.Needs.{access_of}
-use Rattle.attribute.specs.declared.Access.{Access}
+use Rattle.attribute.specs.Needs.{access_of, Access}
 use Rattle.peers.specs.Identity.{same_id}
 use Rattle.peers.specs.declared.Identity.{Identity}
 use Rattle.state.specs.State.{State, Waiting}
 use Rattle.model.specs.View.{if_met}
-use Rattle.model.specs.declared.Answer.{Answer}
 use Rattle.model.specs.declared.Request.{Request}
 use Rattle.model.specs.declared.Request.TheVariants as request
 use Rattle.attribute_server.specs.Request.{Processed}
 use Rattle.secrecy.specs.Hub.{Hub, Asked, Deed, Process, Connect, Disconnect, Set, SetTable, Looks, Call, query_of, call_told, step}
 use Rattle.secrecy.specs.Valid.{Valid}
 use Rattle.secrecy.specs.Agree.{Agree}
+use Rattle.model.specs.declared.Answer.{Answer}
+use Rattle.model.specs.declared.CallError.{CallError}
+use Rattle.wire.specs.declared.att.AttError.TheVariants.{ReadNotPermitted}
 
 -- THE EXCEPTION: the answer to Find By Type Value is not compared, since it looks at every shared value, whoever asks
 unfoldable pub is_compared : Request → Bool
@@ -49,7 +50,7 @@ abbrev pub is_granted : Access → Bool
 is_granted a = if_met a true (λ c. false)
 
 abbrev pub reaches : Identity → ℕ → Call → Bool
-reaches t need c = both (same_id c.who t) (is_request (λ q. is_granted (access_of q.level 0x02 need)) c.deed)
+reaches t need c = both (same_id c.who t) (is_request (λ q. is_granted (access_of q.level ReadNotPermitted need)) c.deed)
 
 unfoldable pub ever_reaches : Identity → List Call → ℕ → Bool
 ever_reaches t [] need = false
@@ -63,7 +64,7 @@ Secrecy =
 -- The same of the code. What a run of `process` leaves: its answer, the state and what waits at the link, and the
 -- buffer
 pub record RunEnd : Type 0 where
-  pub answer : Answer
+  pub answer : Result Answer CallError
   pub state : State
   pub waiting : Waiting
   pub out : List ℕ

@@ -1,4 +1,5 @@
 -- Each call keeps a valid state valid: opening a hub, connecting, leaving. Assumes nothing.
+use Rattle.std.specs.Prelude.{Some}
 use mathlib.Core.Path.{◌≡◌, refl}
 use mathlib.Core.Bool.{Bool, true, false, cond, not}
 use mathlib.Core.List.{List, []}
@@ -15,7 +16,6 @@ use Rattle.peers.specs.Identity.{is_empty, is_bad}
 use Rattle.peers.specs.Slots.{slot_of, taken, connecting, nobody, left, leaving, no_slot}
 use Rattle.peers.specs.declared.Identity.{Identity}
 use Rattle.peers.specs.declared.Seat.{Seat}
-use Rattle.peers.specs.declared.Seated.TheVariants.{At}
 use Rattle.peers.specs.declared.Want.TheVariants.{Usable, Free}
 use Rattle.peers.proofs.Identities.{nobody_empty}
 use Rattle.peers.proofs.Laws.{walk_inside, slot_inside}
@@ -25,7 +25,7 @@ use Rattle.state.specs.Fresh.{fresh_table, table_size, empty_row, fresh_state, c
 use Rattle.state.specs.Valid.{valid}
 use Rattle.state.proofs.Answers.{fresh_length, laid_builder}
 use Rattle.state.proofs.Each.{slots_by}
-use Rattle.state.proofs.Keeping.{nobodys, stay_valid, taken_valid, retaken_valid, parted_valid, emptied_valid}
+use Rattle.state.proofs.Keeping.{nobodys, taken_valid, retaken_valid, parted_valid, emptied_valid}
 
 -- a peer that may call is somebody
 pub good_somebody : (who : Identity) → is_bad who ≡ false → is_empty who ≡ false
@@ -82,10 +82,10 @@ module _ (s : State) (v : valid s ≡ true) (sized : (i : ℕ) → i < slot_coun
       by_joining s.row who (λ m. valid (after_move s m) ≡ true)
       (λ k h. taken_valid s v sized k.0 (walk_inside s.row who Usable k h) (taken who) e)
       (λ k u h. retaken_valid s v sized k.0 (walk_inside s.row who Free k h) (taken who) e)
-      (stay_valid s v (record { place = length s.row; slot = taken who; clears = false; full = true }) (omega arith) refl)
+      v
 
-  left_valid : (bonded : Bool) (k : Seat) → slot_of s.row who ≡ At k
-      → valid (after_move s (record { place = k.0; slot = left bonded (get_or s.row k.0 no_slot); clears = not bonded; full = false })) ≡ true
+  left_valid : (bonded : Bool) (k : Seat) → slot_of s.row who ≡ Some k
+      → valid (after_move s (Some (record { seat = k; slot = left bonded (get_or s.row k.0 no_slot); clears = not bonded }))) ≡ true
   unfolding left
   left_valid true k h = parted_valid s v sized k.0 (slot_inside s.row who k h) (record { id = (get_or s.row k.0 no_slot).id; connected = 0 }) refl
   left_valid false k h = emptied_valid s v sized k.0 (slot_inside s.row who k h) (record { id = nobody; connected = 0 }) nobody_empty
@@ -93,4 +93,4 @@ module _ (s : State) (v : valid s ≡ true) (sized : (i : ℕ) → i < slot_coun
   pub disconnect_valid : (bonded : Bool) → valid (after_move s (leaving s.row who bonded)) ≡ true
   disconnect_valid bonded =
       by_leaving s.row who bonded (λ m. valid (after_move s m) ≡ true) (left_valid bonded)
-      (stay_valid s v (record { place = length s.row; slot = record { id = nobody; connected = 0 }; clears = false; full = false }) (omega arith) refl)
+      v

@@ -1,6 +1,7 @@
 -- Valid in, valid out: a fresh hub is valid, and connecting and leaving keep a valid state valid. Assumes nothing.
+use Rattle.std.specs.Prelude.{Some}
 use mathlib.Core.Path.{◌≡◌, refl, sym, ◌∙◌}
-use mathlib.Core.Bool.{Bool, true, false}
+use mathlib.Core.Bool.{true, false}
 use mathlib.Core.List.{List, []}
 use mathlib.Core.Logic.{⊎_elim}
 use Prim.Native.Nat.{ℕ, ◌+◌, ◌≤◌, ◌<◌}
@@ -25,7 +26,7 @@ use Rattle.peers.specs.Identity.{is_empty}
 use Rattle.peers.specs.Slots.{row_moved, tables_moved, no_slot, Tables}
 use Rattle.peers.specs.declared.Slot.{Slot}
 use Rattle.peers.specs.declared.Move.{Move}
-use Rattle.peers.proofs.Changes.{moved_only, new_slot, row_stays, clear_table, kept_tables}
+use Rattle.peers.proofs.Changes.{moved_only, new_slot, clear_table}
 use Rattle.state.specs.State.{State, state, after_move}
 use Rattle.state.specs.Fresh.{fresh_table, table_size}
 use Rattle.state.specs.Valid.{laid_out, slot_ok, slots_ok, valid}
@@ -164,15 +165,14 @@ module _ (s : State) (v : valid s ≡ true) where
       both_true _ _ (eq-eqb _ _ (n ∙ eight_tables))
       (both_true _ _ right_list (both_true _ _ (le-leb _ _ table_fits_lem) h))
 
-  -- a move to a slot asks for that slot's test alone, and one past the end changes nothing
-  move_valid : (m : Move) → m.place < length s.row → slot_ok (fresh_table s.list) m.slot (get_or (tables_moved s.tables m) m.place []) ≡ true → valid (after_move s m) ≡ true
+  -- a move asks for its slot's test alone
+  move_valid : (m : Move) → m.seat.0 < length s.row → slot_ok (fresh_table s.list) m.slot (get_or (tables_moved s.tables (Some m)) m.seat.0 []) ≡ true
+      → valid (after_move s (Some m)) ≡ true
   move_valid m i h =
       let o = moved_only s.row s.tables m in
-      with_slots (row_moved s.row m) (tables_moved s.tables m) o.tables
-      (slot_changed (fresh_table s.list) m.place s.row (row_moved s.row m) s.tables (tables_moved s.tables m) o right_slots (rw (new_slot s.row m i) h))
-
-  pub stay_valid : (m : Move) → length s.row ≤ m.place → m.clears ≡ false → valid (after_move s m) ≡ true
-  stay_valid m h e = rw (row_stays s.row m h, kept_tables s.tables m e) v
+      with_slots (row_moved s.row (Some m)) (tables_moved s.tables (Some m)) o.tables
+      (slot_changed (fresh_table s.list) m.seat.0 s.row (row_moved s.row (Some m)) s.tables (tables_moved s.tables (Some m)) o right_slots
+      (rw (new_slot s.row m i) h))
 
   module _ (sized : (i : ℕ) → i < slot_count → length (get_or s.tables i []) ≡ table_bytes) (i : ℕ) (hi : i < length s.row) where
     pub inside : i < slot_count
@@ -188,29 +188,29 @@ module _ (s : State) (v : valid s ≡ true) where
         clear_fresh (fresh_table s.list) (fresh_length s.list) (laid_builder s.list) (get_or s.tables i []) (sized i inside) (laid_at i inside)
 
     -- with its table cleared
-    cleared_valid : (x : Slot) (f : Bool) → slot_ok (fresh_table s.list) x (cleared (get_or s.tables i [])) ≡ true
-        → valid (after_move s (record { place = i; slot = x; clears = true; full = f })) ≡ true
-    cleared_valid x f h =
-        let m : Move = record { place = i; slot = x; clears = true; full = f } in
+    cleared_valid : (x : Slot) → slot_ok (fresh_table s.list) x (cleared (get_or s.tables i [])) ≡ true
+        → valid (after_move s (Some (record { seat = record { 0 = i }; slot = x; clears = true }))) ≡ true
+    cleared_valid x h =
+        let m : Move = record { seat = record { 0 = i }; slot = x; clears = true } in
         move_valid m hi (rw (clear_table s.tables m refl (omega (arith, inside, eight_tables))) h)
 
-    pub taken_valid : (x : Slot) → is_empty x.id ≡ false → valid (after_move s (record { place = i; slot = x; clears = false; full = false })) ≡ true
+    pub taken_valid : (x : Slot) → is_empty x.id ≡ false → valid (after_move s (Some (record { seat = record { 0 = i }; slot = x; clears = false }))) ≡ true
     taken_valid x e =
-        move_valid (record { place = i; slot = x; clears = false; full = false }) hi
+        move_valid (record { seat = record { 0 = i }; slot = x; clears = false }) hi
         (somebody (fresh_table s.list) x (get_or s.tables i []) (laid_at i inside) e)
 
-    pub retaken_valid : (x : Slot) → is_empty x.id ≡ false → valid (after_move s (record { place = i; slot = x; clears = true; full = false })) ≡ true
+    pub retaken_valid : (x : Slot) → is_empty x.id ≡ false → valid (after_move s (Some (record { seat = record { 0 = i }; slot = x; clears = true }))) ≡ true
     retaken_valid x e =
-        cleared_valid x false
+        cleared_valid x
         (somebody (fresh_table s.list) x (cleared (get_or s.tables i []))
         (clear_laid (fresh_table s.list) (fresh_length s.list) (laid_builder s.list) (get_or s.tables i []) (sized i inside) (laid_at i inside)) e)
 
-    pub parted_valid : (x : Slot) → x.id ≡ (get_or s.row i no_slot).id → valid (after_move s (record { place = i; slot = x; clears = false; full = false })) ≡ true
+    pub parted_valid : (x : Slot) → x.id ≡ (get_or s.row i no_slot).id → valid (after_move s (Some (record { seat = record { 0 = i }; slot = x; clears = false }))) ≡ true
     parted_valid x e =
-        move_valid (record { place = i; slot = x; clears = false; full = false }) hi
+        move_valid (record { seat = record { 0 = i }; slot = x; clears = false }) hi
         (same_owner (fresh_table s.list) (get_or s.row i no_slot) (get_or s.tables i []) x e (slot_at (fresh_table s.list) s.row s.tables right_slots i hi))
 
-    pub emptied_valid : (x : Slot) → is_empty x.id ≡ true → valid (after_move s (record { place = i; slot = x; clears = true; full = false })) ≡ true
+    pub emptied_valid : (x : Slot) → is_empty x.id ≡ true → valid (after_move s (Some (record { seat = record { 0 = i }; slot = x; clears = true }))) ≡ true
     emptied_valid x e =
-        cleared_valid x false
+        cleared_valid x
         (rw cleared_table (nobodys (fresh_table s.list) (fresh_length s.list) (laid_builder s.list) x e))

@@ -1,5 +1,6 @@
 -- Laying out a list's table entry by entry: each client value of a right list, whose table fits, is a push that is
 -- added. Assumes nothing.
+use Rattle.std.specs.Prelude.{Ok}
 use mathlib.Core.Path.{◌≡◌, refl, sym, ◌∙◌}
 use mathlib.Core.Bool.{Bool, true, false}
 use mathlib.Core.List.{List, []}
@@ -14,7 +15,6 @@ use Rattle.wire.specs.Number.{word}
 use Rattle.table_view.specs.Layout.{end_of}
 use Rattle.table_builder.specs.Push.{builder, last_key, push_plan, with_entry}
 use Rattle.table_builder.specs.AsList.{bytes_after}
-use Rattle.table_builder.specs.declared.Pushed.TheVariants.{Added}
 use Rattle.table_builder.proofs.Laws.{added, adds}
 use Rattle.table_builder.proofs.Grown.{grown, end_out, last_out, fresh_builder, pushed_length, pushed_builder}
 use Rattle.attribute.specs.Record.{attribute_of}
@@ -73,7 +73,7 @@ module _ (list : List (List ℕ)) (store : ℕ) (right : list_ok list store ≡ 
         }
 
     -- a client value is a push that is added
-    client_added : (attribute_of (get_or list i [])).client ≡ true → Added ≡ push_plan out (attribute_of (get_or list i [])).handle (attribute_of (get_or list i [])).cap (attribute_of (get_or list i [])).variable
+    client_added : (attribute_of (get_or list i [])).client ≡ true → (Ok tt) ≡ push_plan out (attribute_of (get_or list i [])).handle (attribute_of (get_or list i [])).cap (attribute_of (get_or list i [])).variable
     client_added c =
         let e = entry list store right i h in
         added out _ _ _ w.ok e.cap e.low (w.below i (omega arith) h) (omega (arith, entry-room, space_client (attribute_of (get_or list i [])) c))

@@ -1,4 +1,5 @@
 -- Any two results that satisfy a call's promise are equal: its answer, and every lent byte. Assumes nothing.
+use Rattle.std.specs.Prelude.{Result, Ok, Err}
 use mathlib.Core.Path.{◌≡◌, refl, sym, ap, ◌∙◌}
 use mathlib.Core.Bool.{cond}
 use mathlib.Core.List.{List, []}
@@ -10,8 +11,8 @@ use Rattle.table_view.specs.Told.{Told, done, none, value, refused, att}
 use Rattle.peers.proofs.Rows.{one_row}
 use Rattle.state.specs.State.{State, lent}
 use Rattle.state.specs.Fresh.{told_opened, new_told, new_left}
-use Rattle.state.specs.declared.Opened.{Opened}
-use Rattle.state.specs.declared.Opened.TheVariants.{Done, BadList, TooLong}
+use Rattle.state.specs.declared.OpenError.TheVariants.{BadList, TooLong}
+use Rattle.state.specs.declared.OpenError.{OpenError}
 
 -- the state fixes the lent bytes: list, store and tables are in it, and a row of slots of eight bytes is fixed by the
 -- slots that they are
@@ -35,23 +36,23 @@ one_lent list list' store store' row row' ts ts' m n e =
     }
 
 -- what is told tells the answers of `new` apart
-abbrev opened_of : Told → Opened
-opened_of done = Done
-opened_of none = Done
-opened_of (value v) = Done
-opened_of (refused n) = cond (eqb n 1) BadList TooLong
-opened_of (att c) = Done
+abbrev opened_of : Told → Result (Unit {0}) OpenError
+opened_of done = (Ok tt)
+opened_of none = (Ok tt)
+opened_of (value v) = (Ok tt)
+opened_of (refused n) = cond (eqb n 1) (Err BadList) (Err TooLong)
+opened_of (att c) = (Ok tt)
 
-read_off : (o : Opened) → opened_of (told_opened o) ≡ o
-read_off Done = refl
-read_off BadList = refl
-read_off TooLong = refl
+read_off : (o : Result (Unit {0}) OpenError) → opened_of (told_opened o) ≡ o
+read_off (Ok tt) = refl
+read_off (Err BadList) = refl
+read_off (Err TooLong) = refl
 
-pub one_opened : (o o' : Opened) → told_opened o ≡ told_opened o' → o ≡ o'
+pub one_opened : (o o' : Result (Unit {0}) OpenError) → told_opened o ≡ told_opened o' → o ≡ o'
 one_opened o o' e = sym (read_off o) ∙ ap opened_of e ∙ read_off o'
 
 -- `new`: the answer, the row and the tables
-module _ (s : State) (list : List (List ℕ)) (store : List ℕ) (row row' : List (List ℕ)) (ts ts' : List (List ℕ)) (o o' : Opened) where
+module _ (s : State) (list : List (List ℕ)) (store : List ℕ) (row row' : List (List ℕ)) (ts ts' : List (List ℕ)) (o o' : Result (Unit {0}) OpenError) where
   pub one_new : EightEach row → EightEach row' → (told_opened o ≡ new_told s) × (lent list store row ts ≡ new_left s)
       → (told_opened o' ≡ new_told s) × (lent list store row' ts' ≡ new_left s) → (o ≡ o') × (row ≡ row') × (ts ≡ ts')
   one_new m n p q =

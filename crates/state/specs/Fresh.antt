@@ -1,5 +1,5 @@
 -- The table that a list lays out, and a fresh hub (document 01, "Slots" and "Refusals of a call"). Assumes nothing.
-use Rattle.std.specs.Prelude.{ℕ, ◌+◌, Bool, cond, List, [], ◌∷◌, length, replicate, leb, eqb}
+use Rattle.std.specs.Prelude.{ℕ, ◌+◌, Bool, cond, List, [], ◌∷◌, length, replicate, leb, eqb, Result, Ok, Err}
 use Rattle.wire.specs.Size.{slot_count, table_bytes}
 use Rattle.wire.specs.Test.{both}
 use Rattle.wire.specs.Run.{after_all}
@@ -12,8 +12,8 @@ use Rattle.attribute.specs.declared.Attribute.{Attribute}
 use Rattle.peers.specs.Slots.{nobody}
 use Rattle.peers.specs.declared.Slot.{Slot}
 use Rattle.state.specs.State.{State, state}
-use Rattle.state.specs.declared.Opened.{Opened}
-use Rattle.state.specs.declared.Opened.TheVariants.{Done, BadList, TooLong}
+use Rattle.state.specs.declared.OpenError.TheVariants.{BadList, TooLong}
+use Rattle.state.specs.declared.OpenError.{OpenError}
 
 -- the pushes that a list asks for: its client values, in order
 abbrev pub push_of : Attribute → Push
@@ -44,10 +44,10 @@ entry_laid bs a = cond a.client (with_entry bs a.handle a.cap a.variable) bs
 
 -- `new`: refusal 1 for a bad list, or for other than eight slots or tables; then 6 where its table would exceed 640
 -- bytes
-abbrev pub told_opened : Opened → Told
-told_opened Done = done
-told_opened BadList = refused 1
-told_opened TooLong = refused 6
+abbrev pub told_opened : Result (Unit {0}) OpenError → Told
+told_opened (Ok x) = done
+told_opened (Err BadList) = refused 1
+told_opened (Err TooLong) = refused 6
 
 unfoldable pub can_open : State → Bool
 can_open s =

@@ -2,3 +2,4 @@ pub mod State
 pub mod Fresh
 pub mod Clear
 pub mod Valid
+pub mod Lent

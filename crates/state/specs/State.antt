@@ -1,5 +1,5 @@
 -- The state that is lent to a call, in one record, and a link's prepared write beside it. Assumes nothing.
-use Rattle.std.specs.Prelude.{ℕ, ◌≡◌, List}
+use Rattle.std.specs.Prelude.{ℕ, ◌≡◌, List, Option}
 use Rattle.peers.specs.Bytes.{row_of}
 use Rattle.peers.specs.Slots.{row_moved, tables_moved}
 use Rattle.peers.specs.declared.Slot.{Slot}
@@ -24,7 +24,7 @@ lent list store row ts = state list store (row_of row) ts
 abbrev pub with_tables : State → List (List ℕ) → State
 with_tables s ts = state s.list s.store s.row ts
 
-abbrev pub after_move : State → Move → State
+abbrev pub after_move : State → Option Move → State
 after_move s m = state s.list s.store (row_moved s.row m) (tables_moved s.tables m)
 
 -- list, store and tables become others, as f says; the row, whatever it is, stays

@@ -1,6 +1,6 @@
 // The table that a list lays out, and the test of the slots against it.
 ghost use Rattle.std.specs.Prelude.{◌≡◌, true, ◌+◌, ◌≤◌, ◌<◌, length, replicate, leb};
-ghost use Rattle.wire.specs.Size.{slot_bytes, slot_count, table_bytes};
+ghost use Rattle.wire.specs.Size.{slot_count, table_bytes};
 ghost use Rattle.attribute.specs.Rules.{list_ok};
 ghost use Rattle.table_view.specs.Layout.{end_of};
 ghost use Rattle.table_builder.specs.Push.{builder};
@@ -13,7 +13,7 @@ use attribute::Attribute;
 use eight_tables::inner as tables;
 use peers::Slot;
 use table_view::{Key, inner as view};
-use wire::sizes::{Record, SLOT_SIZE, SLOTS, SlotBytes, TABLE_SIZE, Table};
+use wire::sizes::{Record, SLOTS, SlotBytes, TABLE_SIZE, Table};
 
 // Lays out one entry, where it is a client value: false where the table has no room for it, and then no byte changes.
 fn lay_entry(out: &mut [u8], a: Attribute) -> bool
@@ -35,26 +35,21 @@ pub fn lay_out(list: &[Record], store: &[u8], out: &mut Table) -> bool
     requires { (list_ok list.now (length store.now) ≡ true) × (out.old ≡ replicate table_bytes 0) }
     ensures { (result ≡ leb (table_size list.now) table_bytes) × (result ≡ true → out.new ≡ fresh_table list.now) }
 {
-    let mut i = 0;
-    while i < list.len() {
-        if !lay_entry(out, attribute::inner::decode(&list[i])) {
+    for r in list {
+        if !lay_entry(out, attribute::inner::decode(r)) {
             return false;
         }
-        i += 1;
     }
     true
 }
 
 // An empty slot has zeros for its values.
+#[tactic(auto, unfolding(crate::specs::Clear::clear_ok))]
 fn clear_ok(s: Slot, t: &[u8], base: usize, end: usize) -> bool
     requires { (base ≤ end) × (end ≤ length t.now) }
     ensures { result ≡ clear_ok base end s t.now }
 {
-    let id = s.id;
-    if peers::who::is_empty(id) {
-        return wire::bytes::is_zero(&t[base..end]);
-    }
-    true
+    !peers::who::is_empty(s.id) || wire::bytes::is_zero(&t[base..end])
 }
 
 // And so do all.
@@ -62,13 +57,10 @@ fn clears_ok(row: &[SlotBytes], tables: &[Table], base: usize, end: usize) -> bo
     requires { (length tables.now ≡ slot_count) × (base ≤ end) × (end ≤ table_bytes) × (length row.now ≡ slot_count) }
     ensures { result ≡ clears_ok base end (row_of row.now) tables.now }
 {
-    let mut i = 0;
-    while i < SLOTS {
-        let s = peers::one::decode(&row[i]);
-        if !clear_ok(s, &tables[i], base, end) {
+    for i in 0..SLOTS {
+        if !clear_ok(Slot::from(&row[i]), &tables[i], base, end) {
             return false;
         }
-        i += 1;
     }
     true
 }
@@ -93,24 +85,11 @@ pub fn slots_ok(row: &[SlotBytes], all: &[Table], fresh: &Table) -> bool
     clears_ok(row, all, base, end)
 }
 
-// Gives every slot the same table.
-pub fn fill(tables: &mut [Table], t: Table)
-    ensures { tables.new ≡ replicate (length tables.old) t }
+// Makes every element the same.
+pub fn fill<T: Copy>(xs: &mut [T], v: T)
+    ensures { xs.new ≡ replicate (length xs.old) v }
 {
-    let mut i = 0;
-    while i < tables.len() {
-        tables[i] = t;
-        i += 1;
-    }
-}
-
-// Makes every slot nobody's: all zeros.
-pub fn empty(row: &mut [SlotBytes])
-    ensures { row.new ≡ replicate (length row.old) (replicate slot_bytes 0) }
-{
-    let mut i = 0;
-    while i < row.len() {
-        row[i] = [0u8; SLOT_SIZE];
-        i += 1;
+    for x in xs.iter_mut() {
+        *x = v;
     }
 }

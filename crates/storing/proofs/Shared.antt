@@ -1,5 +1,6 @@
 -- A write to a shared value is a write to an item of a plain list, and it stays there: every other entry's record and
 -- every other shared value stand as they did, since the ranges lie apart. Assumes nothing.
+use Rattle.std.specs.Prelude.{Option, Ok, Err}
 use mathlib.Core.Path.{◌≡◌, refl, ◌∙◌}
 use mathlib.Core.Bool.{Bool, true, false, cond}
 use mathlib.Core.List.{List, [], ◌∷◌}
@@ -18,16 +19,15 @@ use Rattle.client_att_table.proofs.Writing.{fixed_value, var_value}
 use Rattle.attribute.specs.Record.{entry_of, attribute_of, with_length}
 use Rattle.attribute.specs.Rules.{list_ok}
 use Rattle.attribute.specs.declared.Attribute.{Attribute}
-use Rattle.attribute.specs.declared.Access.{Access}
-use Rattle.attribute.specs.declared.Access.TheVariants.{Granted, Denied}
 use Rattle.attribute.proofs.Shape.{shared, apart}
 use Rattle.attribute.proofs.Kept.{fields_kept, known_kept}
-use Rattle.peers.specs.declared.Seated.{Seated}
 use Rattle.state.specs.State.{State}
 use Rattle.model.specs.Value.{shared_item, write_rule}
 use Rattle.model.specs.Change.{if_granted, length_put, shared_list, shared_store, put_at}
 use Rattle.storing.proofs.Putting.{has_room}
 use Rattle.storing.proofs.Writing.{item_length}
+use Rattle.attribute.specs.Needs.{Access}
+use Rattle.peers.specs.declared.Seat.{Seat}
 
 -- d in a shared value of a store
 module _ (store d : List ℕ) (a : Attribute) (off : ℕ) (inside : a.start + a.cap ≤ length store) (o : off ≤ a.len) (h : off + length d ≤ a.cap) where
@@ -69,7 +69,7 @@ by_kind true = inl refl
 by_kind false = inr refl
 
 module _ (s : State) (ok : list_ok s.list (length s.store) ≡ true) (records : (k : ℕ) → k < length s.list → length (get_or s.list k []) ≡ record_bytes)
-    (slot : Seated) (i : ℕ) (l : i < length s.list) (off : ℕ) (d : List ℕ) where
+    (slot : Option Seat) (i : ℕ) (l : i < length s.list) (off : ℕ) (d : List ℕ) where
   -- the value that is written acts as an item of a plain list
   pub item_put : (attribute_of (get_or s.list i [])).client ≡ false
       → shared_item (put_at s slot i off d).store (attribute_of (get_or (put_at s slot i off d).list i [])) ≡ item_after off d (shared_item s.store (attribute_of (get_or s.list i [])))
@@ -107,9 +107,9 @@ module _ (s : State) (ok : list_ok s.list (length s.store) ≡ true) (records : 
     where
       by : (t : Bool) (r : Access) (v : Bool) → P (cond t s.list (if_granted r (cond v (set s.list i (with_length (get_or s.list i []) (off + length d))) s.list) s.list))
       by true r v = old
-      by false (Denied c) v = old
-      by false Granted true = new
-      by false Granted false = old
+      by false (Err c) v = old
+      by false (Ok tt) true = new
+      by false (Ok tt) false = old
 
   -- the store then: as it was, or written within the value's range
   by_store : (P : List ℕ → Type 0) → P s.store → ((attribute_of (get_or s.list i [])).client ≡ false → off + length d ≤ (attribute_of (get_or s.list i [])).cap → P (sets s.store ((attribute_of (get_or s.list i [])).start + off) d)) → P (put_at s slot i off d).store
@@ -121,8 +121,8 @@ module _ (s : State) (ok : list_ok s.list (length s.store) ≡ true) (records : 
       by : (t : Bool) (r : Access) → (attribute_of (get_or s.list i [])).client ≡ t → write_rule (attribute_of (get_or s.list i [])).len (attribute_of (get_or s.list i [])).cap off (length d) ≡ r
           → P (cond t s.store (if_granted r (sets s.store ((attribute_of (get_or s.list i [])).start + off) d) s.store))
       by true r c e = old
-      by false (Denied x) c e = old
-      by false Granted c e = new c (has_room _ _ _ _ e)
+      by false (Err x) c e = old
+      by false (Ok tt) c e = new c (has_room _ _ _ _ e)
 
   -- what every link may know of an entry stays
   pub put_entry : (j : ℕ) → entry_of (get_or (put_at s slot i off d).list j []) ≡ entry_of (get_or s.list j [])

@@ -1,5 +1,6 @@
 -- Valid in, valid out: a write keeps a valid state valid. A shared value's length stays within its capacity, and a
 -- client value's table keeps its header, its index and the zeros after its end. Assumes nothing.
+use Rattle.std.specs.Prelude.{Option, Some, None, Ok, Err}
 use mathlib.Core.Path.{◌≡◌, refl, ap, ◌∙◌}
 use mathlib.Core.Bool.{Bool, true, false, cond}
 use mathlib.Core.List.{List, [], ◌∷◌}
@@ -16,15 +17,11 @@ use Rattle.client_att_table.proofs.Frame.{Kept}
 use Rattle.client_att_table.proofs.AsList.{call_kept}
 use Rattle.attribute.specs.Record.{attribute_of, with_length}
 use Rattle.attribute.specs.declared.Attribute.{Attribute}
-use Rattle.attribute.specs.declared.Access.{Access}
-use Rattle.attribute.specs.declared.Access.TheVariants.{Granted, Denied}
 use Rattle.attribute.proofs.Kept.{HoldsLength, fields_kept, variable_holds, length_kept}
 use Rattle.peers.specs.Identity.{is_empty, is_bad}
 use Rattle.peers.specs.Slots.{slot_of, no_slot}
 use Rattle.peers.specs.declared.Identity.{Identity}
 use Rattle.peers.specs.declared.Seat.{Seat}
-use Rattle.peers.specs.declared.Seated.{Seated}
-use Rattle.peers.specs.declared.Seated.TheVariants.{At, Nothing}
 use Rattle.peers.specs.declared.Want.TheVariants.{Own}
 use Rattle.peers.proofs.Changes.{table_set}
 use Rattle.peers.proofs.Identities.{same_is}
@@ -39,6 +36,7 @@ use Rattle.state.proofs.Calls.{good_somebody}
 use Rattle.model.specs.Value.{write_rule}
 use Rattle.model.specs.Change.{if_granted, length_put, shared_list, shared_store, own_tables, put_at}
 use Rattle.storing.proofs.Putting.{has_room}
+use Rattle.attribute.specs.Needs.{Access}
 
 -- a list with another present length of one entry lays out the same table
 module _ (n : ℕ) where
@@ -88,8 +86,8 @@ module _ (s : State) (v : valid s ≡ true) where
   shared_valid i off n l = by (write_rule (attribute_of (get_or s.list i [])).len (attribute_of (get_or s.list i [])).cap off n) refl
     where
       by : (r : Access) → write_rule (attribute_of (get_or s.list i [])).len (attribute_of (get_or s.list i [])).cap off n ≡ r → valid (with_list s (if_granted r (length_put s.list i (off + n)) s.list)) ≡ true
-      by Granted e = put_length_valid i (off + n) l (has_room _ _ _ _ e)
-      by (Denied c) e = v
+      by (Ok tt) e = put_length_valid i (off + n) l (has_room _ _ _ _ e)
+      by (Err c) e = v
 
   -- another store of the same length
   other_store : (store : List ℕ) → length store ≡ length s.store → valid (state s.list store s.row s.tables) ≡ true
@@ -98,7 +96,7 @@ module _ (s : State) (v : valid s ≡ true) where
 
   -- another table of a slot that is somebody's
   module _ (who : Identity) (good : is_bad who ≡ false) (sized : (k : ℕ) → k < slot_count → length (get_or s.tables k []) ≡ table_bytes) where
-    pub kept_valid : (k : Seat) → slot_of s.row who ≡ At k → (out : List ℕ) → (accepts (get_or s.tables k.0 []) ≡ true → Kept (get_or s.tables k.0 []) out)
+    pub kept_valid : (k : Seat) → slot_of s.row who ≡ Some k → (out : List ℕ) → (accepts (get_or s.tables k.0 []) ≡ true → Kept (get_or s.tables k.0 []) out)
         → valid (with_tables s (set s.tables k.0 out)) ≡ true
     kept_valid k e out kept =
         let fresh = fresh_table s.list in
@@ -112,18 +110,18 @@ module _ (s : State) (v : valid s ≡ true) where
         with_slots s v s.row (set s.tables k.0 out) (length-set s.tables k.0 out)
         (slot_changed fresh k.0 s.row s.row s.tables (set s.tables k.0 out) (table_set k.0 s.row s.tables out) (right_slots s v) (rw (get_or-set_same s.tables k.0 out [] (omega arith)) here))
 
-    own_valid : (h off : ℕ) (d : List ℕ) (f : Seated) → slot_of s.row who ≡ f → valid (with_tables s (own_tables s.tables f h off d)) ≡ true
+    own_valid : (h off : ℕ) (d : List ℕ) (f : Option Seat) → slot_of s.row who ≡ f → valid (with_tables s (own_tables s.tables f h off d)) ≡ true
     unfolding own_tables
-    own_valid h off d Nothing e = v
-    own_valid h off d (At k) e = kept_valid k e _ (λ ok. table_kept (get_or s.tables k.0 []) ok h off d)
+    own_valid h off d None e = v
+    own_valid h off d (Some k) e = kept_valid k e _ (λ ok. table_kept (get_or s.tables k.0 []) ok h off d)
 
 store_length : (store : List ℕ) (a : Attribute) (off : ℕ) (d : List ℕ) → length (shared_store store a off d) ≡ length store
 unfolding shared_store
 store_length store a off d = by (write_rule a.len a.cap off (length d))
   where
     by : (r : Access) → length (if_granted r (sets store (a.start + off) d) store) ≡ length store
-    by Granted = length-sets store (a.start + off) d
-    by (Denied c) = refl
+    by (Ok tt) = length-sets store (a.start + off) d
+    by (Err c) = refl
 
 -- a write by place
 module _ (s : State) (who : Identity) (v : valid s ≡ true) (good : is_bad who ≡ false) (records : (i : ℕ) → i < length s.list → length (get_or s.list i []) ≡ record_bytes)

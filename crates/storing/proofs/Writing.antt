@@ -1,5 +1,6 @@
 -- Laws of a write by place and by handle: the answer that the link's view gives, and what stands after it. Assumes
 -- nothing.
+use Rattle.std.specs.Prelude.{Option, Some, None, Ok, Err}
 use mathlib.Core.Path.{◌≡◌, refl, sym, ◌∙◌}
 use mathlib.Core.Bool.{Bool, true, false, cond}
 use mathlib.Core.List.{List, []}
@@ -7,17 +8,13 @@ use Prim.Native.Nat.{ℕ, ◌<◌}
 use native.Mathlib.Omega.{arith}
 use lib.ListN.{length, get_or, drop, length-drop}
 use lib.Seq.{length-take-le}
-use Rattle.wire.specs.declared.Found.TheVariants.{At, Nothing}
 use Rattle.attribute.specs.Record.{attribute_of}
 use Rattle.attribute.specs.Lookup.{place_of}
-use Rattle.attribute.specs.Needs.{may_write}
+use Rattle.attribute.specs.Needs.{may_write, Access}
 use Rattle.attribute.specs.Rules.{list_ok}
 use Rattle.attribute.specs.declared.Attribute.{Attribute}
 use Rattle.attribute.specs.declared.Link.{Link}
-use Rattle.attribute.specs.declared.Access.{Access}
-use Rattle.attribute.specs.declared.Access.TheVariants.{Granted, Denied}
 use Rattle.attribute.proofs.Shape.{shared}
-use Rattle.peers.specs.declared.Seated.{Seated}
 use Rattle.state.specs.State.{Becomes}
 use Rattle.model.specs.Value.{shared_item, at_value, own_write, write_of}
 use Rattle.model.specs.View.{Seen, seen_by, seen_all, table_at, write_at}
@@ -25,6 +22,9 @@ use Rattle.model.specs.Change.{own_tables, put_at, written}
 use Rattle.model.proofs.Looking.{seen_at, seen_nowhere}
 use Rattle.model.proofs.States.{same_state}
 use Rattle.storing.proofs.Putting.{Put}
+use Rattle.peers.specs.declared.Seat.{Seat}
+use Rattle.wire.specs.declared.att.AttError.{AttError}
+use Rattle.wire.specs.declared.att.AttError.TheVariants.{AttributeNotFound}
 
 -- a shared value has as many bytes as its entry says
 pub item_length : (list : List (List ℕ)) (store : List ℕ) → list_ok list (length store) ≡ true → (i : ℕ) → i < length list → (attribute_of (get_or list i [])).client ≡ false
@@ -39,7 +39,7 @@ second : {A : Type 0} (t : Bool) (x y : A) → t ≡ false → y ≡ cond t x y
 second t x y e = rw e
 
 -- by place
-module _ (list : List (List ℕ)) (store : List ℕ) (ts : List (List ℕ)) (slot : Seated) (i off : ℕ) (d : List ℕ) (a : Attribute) (is : a ≡ attribute_of (get_or list i [])) where
+module _ (list : List (List ℕ)) (store : List ℕ) (ts : List (List ℕ)) (slot : Option Seat) (i off : ℕ) (d : List ℕ) (a : Attribute) (is : a ≡ attribute_of (get_or list i [])) where
   pub own_put : a.client ≡ true → (r : Access) (ts' : List (List ℕ)) → r ≡ own_write (table_at ts slot) a.handle off (length d) → ts' ≡ own_tables ts slot a.handle off d
       → (r ≡ write_of store (table_at ts slot) (attribute_of (get_or list i [])) off (length d)) × Becomes (λ s. put_at s slot i off d) list store ts list store ts'
   unfolding write_of at_value put_at
@@ -63,24 +63,24 @@ module _ (list : List (List ℕ)) (store : List ℕ) (ts : List (List ℕ)) (slo
       )
 
 -- by handle
-module _ (link : Link) (list : List (List ℕ)) (store : List ℕ) (ts : List (List ℕ)) (slot : Seated) (h off : ℕ) (d : List ℕ) where
-  pub not_listed : place_of list h ≡ Nothing
-      → (Denied 0x0A ≡ write_at h off (length d) (seen_all link list store (table_at ts slot))) × Becomes (λ s. written link s slot h off d) list store ts list store ts
+module _ (link : Link) (list : List (List ℕ)) (store : List ℕ) (ts : List (List ℕ)) (slot : Option Seat) (h off : ℕ) (d : List ℕ) where
+  pub not_listed : place_of list h ≡ None
+      → (Err AttributeNotFound ≡ write_at h off (length d) (seen_all link list store (table_at ts slot))) × Becomes (λ s. written link s slot h off d) list store ts list store ts
   unfolding write_at
   not_listed e =
-      (sym (seen_nowhere link list store (table_at ts slot) h (λ (s : Seen). s.write off (length d)) (Denied 0x0A) e), rw e (λ row. refl))
+      (sym (seen_nowhere link list store (table_at ts slot) h (λ (s : Seen). s.write off (length d)) (Err AttributeNotFound) e), rw e (λ row. refl))
 
-  module _ (i : ℕ) (e : place_of list h ≡ At i) where
+  module _ (i : ℕ) (e : place_of list h ≡ Some i) where
     at_place_lem : write_at h off (length d) (seen_all link list store (table_at ts slot)) ≡ (seen_by link store (table_at ts slot) (get_or list i [])).write off (length d)
     unfolding write_at
-    at_place_lem = seen_at link list store (table_at ts slot) h (λ (s : Seen). s.write off (length d)) (Denied 0x0A) i e
+    at_place_lem = seen_at link list store (table_at ts slot) h (λ (s : Seen). s.write off (length d)) (Err AttributeNotFound) i e
 
-    pub not_met : (c : ℕ) → may_write (attribute_of (get_or list i [])) link ≡ Denied c
-        → (Denied c ≡ write_at h off (length d) (seen_all link list store (table_at ts slot))) × Becomes (λ s. written link s slot h off d) list store ts list store ts
+    pub not_met : (c : AttError) → may_write (attribute_of (get_or list i [])) link ≡ Err c
+        → (Err c ≡ write_at h off (length d) (seen_all link list store (table_at ts slot))) × Becomes (λ s. written link s slot h off d) list store ts list store ts
     unfolding seen_by
     not_met c m = (sym (at_place_lem ∙ rw m), rw (e, m) (λ row. refl))
 
-    pub met : may_write (attribute_of (get_or list i [])) link ≡ Granted → (r : Access) (list' : List (List ℕ)) (store' : List ℕ) (ts' : List (List ℕ))
+    pub met : may_write (attribute_of (get_or list i [])) link ≡ Ok tt → (r : Access) (list' : List (List ℕ)) (store' : List ℕ) (ts' : List (List ℕ))
         → (r ≡ write_of store (table_at ts slot) (attribute_of (get_or list i [])) off (length d)) × Becomes (λ s. put_at s slot i off d) list store ts list' store' ts'
         → (r ≡ write_at h off (length d) (seen_all link list store (table_at ts slot))) × Becomes (λ s. written link s slot h off d) list store ts list' store' ts'
     unfolding seen_by

@@ -1,6 +1,7 @@
 -- A run of pushes lays out the plain list (`specs/AsList.antt`): bytes that hold a list, with no gap between values,
 -- hold the list with one entry more after a push.
 -- Assumes nothing.
+use Rattle.std.specs.Prelude.{Ok, Err}
 use mathlib.Core.Path.{◌≡◌, refl, sym, ap, ◌∙◌}
 use mathlib.Core.Bool.{Bool, true, false, cond}
 use mathlib.Core.List.{List, [], ◌∷◌, ◌++◌}
@@ -16,9 +17,9 @@ use Rattle.table_view.specs.View.{Item, items_from, view}
 use Rattle.table_view.specs.Told.{done, refused, if_done}
 use Rattle.table_builder.specs.Push.{builder, last_key, entry_fits, value_size, push_plan, with_entry, told_pushed}
 use Rattle.table_builder.specs.AsList.{Push, blank, last_of, size_of, list_told, list_after, bytes_told, bytes_after, BuilderIsList}
-use Rattle.table_builder.specs.declared.Pushed.TheVariants.{Added, BadEntry, NoRoom}
 use Rattle.table_builder.proofs.Laws.{Adds, adds}
 use Rattle.table_builder.proofs.Grown.{grown, end_out, last_out, builder_out, view_out, fresh_builder}
+use Rattle.table_builder.specs.declared.PushError.TheVariants.{BadEntry, NoRoom}
 
 -- the last key and the size of a list with one entry more
 last_more : (k : ℕ) (xs : List Item) (x : Item) → last_of k (xs ++ x ∷ []) ≡ x.key
@@ -65,7 +66,7 @@ module _ (bs : List ℕ) (xs : List Item) (t : Holds bs xs) (p : Push) where
         last = last_out bs _ _ _ _ a g ∙ sym (last_more 0 xs (blank p));
       }
 
-  planned : push_plan bs p.key p.size p.variable ≡ cond (fits xs p) (cond (has_room xs p) Added NoRoom) BadEntry
+  planned : push_plan bs p.key p.size p.variable ≡ cond (fits xs p) (cond (has_room xs p) (Ok tt) (Err NoRoom)) (Err BadEntry)
   unfolding push_plan
   planned = rw (t.ok, t.last, t.end)
 
@@ -73,7 +74,7 @@ module _ (bs : List ℕ) (xs : List Item) (t : Holds bs xs) (p : Push) where
   unfolding list_told
   told_same = rw planned (by (fits xs p) (has_room xs p))
     where
-      by : (f r : Bool) → told_pushed (cond f (cond r Added NoRoom) BadEntry) ≡ cond f (cond r done (refused 6)) (refused 5)
+      by : (f r : Bool) → told_pushed (cond f (cond r (Ok tt) (Err NoRoom)) (Err BadEntry)) ≡ cond f (cond r done (refused 6)) (refused 5)
       by true true = refl
       by true false = refl
       by false r = refl
@@ -82,7 +83,7 @@ module _ (bs : List ℕ) (xs : List Item) (t : Holds bs xs) (p : Push) where
   unfolding list_told
   push_holds = by (fits xs p) (has_room xs p) planned
     where
-      by : (f r : Bool) → push_plan bs p.key p.size p.variable ≡ cond f (cond r Added NoRoom) BadEntry → Holds (bytes_after bs p) (if_done (cond f (cond r done (refused 6)) (refused 5)) (xs ++ blank p ∷ []) xs)
+      by : (f r : Bool) → push_plan bs p.key p.size p.variable ≡ cond f (cond r (Ok tt) (Err NoRoom)) (Err BadEntry) → Holds (bytes_after bs p) (if_done (cond f (cond r done (refused 6)) (refused 5)) (xs ++ blank p ∷ []) xs)
       by true true e = rw e (more (adds _ _ _ _ e))
       by true false e = rw e t
       by false r e = rw e t

@@ -1,5 +1,6 @@
 -- A builder with one entry more: its numbers, the old entries that stay and the new one, and that it is a builder
 -- again. Assumes nothing.
+use Rattle.std.specs.Prelude.{Result, Ok, Err}
 use mathlib.Core.Path.{◌≡◌, refl, sym, ◌∙◌}
 use mathlib.Core.Bool.{Bool, true, false, cond}
 use mathlib.Core.List.{List, [], ◌∷◌, ◌++◌}
@@ -26,10 +27,9 @@ use Rattle.table_view.proofs.Reading.{by_values}
 use Rattle.table_view.proofs.Shape.{index, entry_at, entry_value, all_values, ascends}
 use Rattle.table_builder.specs.Push.{builder, last_key, value_size, flagged, push_plan, with_entry, if_added, after_push}
 use Rattle.table_builder.specs.AsList.{blank}
-use Rattle.table_builder.specs.declared.Pushed.{Pushed}
-use Rattle.table_builder.specs.declared.Pushed.TheVariants.{Added, BadBuilder, BadEntry, NoRoom}
 use Rattle.table_builder.proofs.Laws.{Adds, adds, is_table, last}
 use Rattle.table_builder.proofs.Clear.{Clear, is_clear, is_builder, len_clear, item_clear}
+use Rattle.table_builder.specs.declared.PushError.{PushError}
 
 -- a key with its flag holds both
 flagged_key : (k : ℕ) (var : Bool) → k ≤ 32767 → flagged k var % 32768 ≡ k
@@ -260,14 +260,12 @@ fresh_builder = all_zeros 636
 
 module _ (bs : List ℕ) (k n : ℕ) (var : Bool) where
   -- what holds of the bytes and of those with the entry holds after a push
-  pushed : (P : List ℕ → Type 0) → P bs → (push_plan bs k n var ≡ Added → P (with_entry bs k n var)) → P (after_push bs k n var)
+  pushed : (P : List ℕ → Type 0) → P bs → (push_plan bs k n var ≡ Ok tt → P (with_entry bs k n var)) → P (after_push bs k n var)
   pushed P old new = by (push_plan bs k n var) refl
     where
-      by : (p : Pushed) → push_plan bs k n var ≡ p → P (if_added p (with_entry bs k n var) bs)
-      by Added e = new e
-      by BadBuilder e = old
-      by BadEntry e = old
-      by NoRoom e = old
+      by : (p : Result (Unit {0}) PushError) → push_plan bs k n var ≡ p → P (if_added p (with_entry bs k n var) bs)
+      by (Ok x) e = new e
+      by (Err w) e = old
 
   -- a push leaves as many bytes
   pub pushed_length : length (after_push bs k n var) ≡ length bs

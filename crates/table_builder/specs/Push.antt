@@ -1,5 +1,5 @@
 -- The builder (document 01): bytes that are a table with zeros after its index, and one entry more. Assumes nothing.
-use Rattle.std.specs.Prelude.{ℕ, ◌+◌, ◌-◌, Bool, cond, List, drop, leb, ltb, eqb}
+use Rattle.std.specs.Prelude.{ℕ, ◌+◌, ◌-◌, Bool, cond, List, drop, leb, ltb, eqb, Result, Ok, Err}
 use Rattle.std.proofs.lemmas.List.Edits.{sets}
 use Rattle.wire.specs.Size.{table_bytes, value_bytes}
 use Rattle.wire.specs.Test.{both}
@@ -8,15 +8,15 @@ use Rattle.wire.specs.Number.{word_bytes}
 use Rattle.table_view.specs.Layout.{count_of, values_len, base_of, end_of, key_at}
 use Rattle.table_view.specs.Rules.{accepts}
 use Rattle.table_view.specs.Told.{Told, done, refused}
-use Rattle.table_builder.specs.declared.Pushed.{Pushed}
-use Rattle.table_builder.specs.declared.Pushed.TheVariants.{Added, BadBuilder, BadEntry, NoRoom}
+use Rattle.table_builder.specs.declared.PushError.{PushError}
+use Rattle.table_builder.specs.declared.PushError.TheVariants.{BadBuilder, BadEntry, NoRoom}
 
 -- the number of each answer
-abbrev pub told_pushed : Pushed → Told
-told_pushed Added = done
-told_pushed BadBuilder = refused 4
-told_pushed BadEntry = refused 5
-told_pushed NoRoom = refused 6
+abbrev pub told_pushed : Result (Unit {0}) PushError → Told
+told_pushed (Ok x) = done
+told_pushed (Err BadBuilder) = refused 4
+told_pushed (Err BadEntry) = refused 5
+told_pushed (Err NoRoom) = refused 6
 
 -- a builder's bytes pass the reading rules, and those after its index are all zero
 unfoldable pub builder : List ℕ → Bool
@@ -39,11 +39,11 @@ unfoldable pub flagged : ℕ → Bool → ℕ
 flagged k var = cond var (k + 32768) k
 
 -- what a push answers, the lowest number first: a table of at most 640 bytes grows by 4 for the entry and by its value
-unfoldable pub push_plan : List ℕ → ℕ → ℕ → Bool → Pushed
+unfoldable pub push_plan : List ℕ → ℕ → ℕ → Bool → Result (Unit {0}) PushError
 push_plan bs k n var =
     cond (builder bs)
-    (cond (entry_fits (last_key bs) k n) (cond (leb (end_of bs + 4 + value_size n var) table_bytes) Added NoRoom) BadEntry)
-    BadBuilder
+    (cond (entry_fits (last_key bs) k n) (cond (leb (end_of bs + 4 + value_size n var) table_bytes) (Ok tt) (Err NoRoom)) (Err BadEntry))
+    (Err BadBuilder)
 
 abbrev pub push_told : List ℕ → ℕ → ℕ → Bool → Told
 push_told bs k n var = told_pushed (push_plan bs k n var)
@@ -60,11 +60,9 @@ with_entry bs k n var =
     (word_bytes (values_len bs))
 
 -- a refused push leaves every byte
-abbrev pub if_added : Pushed → List ℕ → List ℕ → List ℕ
-if_added Added new old = new
-if_added BadBuilder new old = old
-if_added BadEntry new old = old
-if_added NoRoom new old = old
+abbrev pub if_added : Result (Unit {0}) PushError → List ℕ → List ℕ → List ℕ
+if_added (Ok x) new old = new
+if_added (Err e) new old = old
 
 abbrev pub after_push : List ℕ → ℕ → ℕ → Bool → List ℕ
 after_push bs k n var = if_added (push_plan bs k n var) (with_entry bs k n var) bs

@@ -6,16 +6,15 @@ pub mod inner;
 
 ghost use Rattle.std.specs.Prelude.{◌≡◌, replicate};
 ghost use Rattle.wire.specs.Size.{table_bytes};
-ghost use Rattle.table_view.specs.Read.{told};
+ghost use Rattle.table_view.specs.Read.{told_done};
 ghost use Rattle.table_builder.specs.Push.{told_pushed, push_told, after_push, build_told, after_build};
 
-use table_view::{Key, Outcome};
+use table_view::{Key, NotATable};
 use wire::sizes::{TABLE_SIZE, Table};
 
-// What a push answers.
-#[derive(Clone, Copy)]
-pub enum Pushed {
-    Added,
+// Why a push adds nothing.
+#[derive(Clone, Copy, Debug, PartialEq, Eq)]
+pub enum PushError {
     BadBuilder,
     BadEntry,
     NoRoom,
@@ -28,24 +27,23 @@ pub fn new() -> Table
     [0u8; TABLE_SIZE]
 }
 
-// One entry more, for a value of n bytes, or of up to n. Any answer but Added leaves every byte.
-pub fn push(b: &mut Table, key: Key, n: u16, variable: bool) -> Pushed
+// One entry more, for a value of n bytes, or of up to n. An error leaves every byte.
+pub fn push(b: &mut Table, key: Key, n: u16, variable: bool) -> Result<(), PushError>
     ensures { (told_pushed result ≡ push_told b.old key.0 n variable) × (b.new ≡ after_push b.old key.0 n variable) }
 {
-    let plan = inner::judge(b, key, n, variable);
-    if let Pushed::Added = plan {
-        inner::add(b, key, n, variable);
-    }
-    plan
+    inner::judge(b, key, n, variable)?;
+    inner::add(b, key, n, variable);
+    Ok(())
 }
 
 // The builder's table, with every value zero. A builder that breaks the rules leaves every byte of the table.
-pub fn build(b: &Table, table: &mut Table) -> Outcome
-    ensures { (told result ≡ build_told b.now) × (table.new ≡ after_build b.now table.old) }
+#[tactic(auto, unfolding(crate::specs::Push::build_told, crate::specs::Push::after_build))]
+pub fn build(b: &Table, table: &mut Table) -> Result<(), NotATable>
+    ensures { (told_done result ≡ build_told b.now) × (table.new ≡ after_build b.now table.old) }
 {
     if !inner::is_builder(b) {
-        return Outcome::Refused;
+        return Err(NotATable);
     }
-    wire::inner::copy(table, 0, b);
-    Outcome::Done
+    *table = *b;
+    Ok(())
 }

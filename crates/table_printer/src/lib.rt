@@ -33,7 +33,7 @@ fn value(out: &mut [u8], at: usize, v: &[u8]) -> usize
     requires { Short at (value_text v.now) }
     ensures { Put out.old out.new at result (value_text v.now) }
 {
-    if v.len() == 0 {
+    if v.is_empty() {
         return bytes(out, at, b"-");
     }
     hex(out, at, v)
@@ -80,10 +80,8 @@ fn lines(out: &mut [u8], t: &[u8]) -> usize
 {
     let n = inner::count(t);
     let mut next = heading(out, n);
-    let mut i = 0;
-    while i < n {
+    for i in 0..n {
         next = entry(out, next, t, Place(i));
-        i += 1;
     }
     next
 }

@@ -1,49 +1,68 @@
 -- Any two results that satisfy a call's promise are equal: its answer, and the bytes that it hands over. Assumes
 -- nothing.
+use Rattle.std.specs.Prelude.{Result, Ok, Err, Option}
 use mathlib.Core.Path.{◌≡◌, refl, sym, ap, ◌∙◌}
-use mathlib.Core.Bool.{cond}
 use mathlib.Core.List.{List}
 use Prim.Native.Nat.{ℕ}
-use lib.Dec.{eqb}
+use Rattle.wire.proofs.Codes.{error_of, error_code}
 use Rattle.table_view.specs.Told.{Told, done, none, value, refused, att}
-use Rattle.table_view.specs.Read.{told, part, told_got, read_told, got_of, get_told, raw_of, raw_told}
+use Rattle.table_view.specs.Read.{told_done, told_write, not_a_table, part, told_got, told_raw, read_of, read_told, got_of, get_told, raw_of, raw_told}
 use Rattle.table_view.specs.declared.Span.{Span}
-use Rattle.table_view.specs.declared.Got.{Got}
-use Rattle.table_view.specs.declared.Outcome.{Outcome}
-use Rattle.table_view.specs.declared.Outcome.TheVariants.{Done, Refused, NotFound, BadOffset, BadLength}
+use Rattle.table_view.specs.declared.NotATable.{NotATable}
+use Rattle.table_view.specs.declared.WriteError.{WriteError}
+use Rattle.table_view.specs.declared.WriteError.TheVariants as error
 
--- an outcome can be read off what it tells
-abbrev outcome_of : Told → Outcome
-outcome_of done = Done
-outcome_of none = Done
-outcome_of (value v) = Done
-outcome_of (refused n) = Refused
-outcome_of (att c) = cond (eqb c 0x0A) NotFound (cond (eqb c 0x07) BadOffset BadLength)
+-- an answer can be read off what it tells
+abbrev done_of : Told → Result (Unit {0}) NotATable
+done_of done = Ok tt
+done_of none = Ok tt
+done_of (value v) = Ok tt
+done_of (refused n) = Err not_a_table
+done_of (att c) = Ok tt
 
-read_off : (r : Outcome) → outcome_of (told r) ≡ r
-read_off Done = refl
-read_off Refused = refl
-read_off NotFound = refl
-read_off BadOffset = refl
-read_off BadLength = refl
+done_read : (r : Result (Unit {0}) NotATable) → done_of (told_done r) ≡ r
+done_read (Ok x) = refl
+done_read (Err e) = refl
 
-pub one_outcome : (t : Told) (r r' : Outcome) → told r ≡ t → told r' ≡ t → r ≡ r'
-one_outcome t r r' p q = sym (read_off r) ∙ ap outcome_of (p ∙ sym q) ∙ read_off r'
+abbrev write_of : Told → Result (Unit {0}) WriteError
+write_of done = Ok tt
+write_of none = Ok tt
+write_of (value v) = Ok tt
+write_of (refused n) = Err error.NotATable
+write_of (att c) = Err (error.Att (error_of c))
 
--- and with it the bytes that a call leaves, where its promise says which they are
-pub one_left : (t : Told) (left : List ℕ) (r r' : Outcome) (new new' : List ℕ) → (told r ≡ t) × (new ≡ left) → (told r' ≡ t) × (new' ≡ left) → (r ≡ r') × (new ≡ new')
-one_left t left r r' new new' x y = (one_outcome t r r' x.0 y.0, x.1 ∙ sym y.1)
+write_read : (r : Result (Unit {0}) WriteError) → write_of (told_write r) ≡ r
+write_read (Ok x) = refl
+write_read (Err error.NotATable) = refl
+write_read (Err (error.Att e)) = ap (λ x. Err (error.Att x)) (error_code e)
+
+-- two answers that tell the same are the same, and with them the bytes that a call leaves, where its promise says which
+-- they are
+module _ {R : Type 0} (tell : R → Told) (of : Told → R) (read : (r : R) → of (tell r) ≡ r) where
+  one_told : (t : Told) (r r' : R) → tell r ≡ t → tell r' ≡ t → r ≡ r'
+  one_told t r r' p q = sym (read r) ∙ ap of (p ∙ sym q) ∙ read r'
+
+  one_left : (t : Told) (left : List ℕ) (r r' : R) (new new' : List ℕ) → (tell r ≡ t) × (new ≡ left) → (tell r' ≡ t) × (new' ≡ left) → (r ≡ r') × (new ≡ new')
+  one_left t left r r' new new' x y = (one_told t r r' x.0 y.0, x.1 ∙ sym y.1)
+
+pub done_left : (t : Told) (left : List ℕ) (r r' : Result (Unit {0}) NotATable) (new new' : List ℕ) → (told_done r ≡ t) × (new ≡ left)
+    → (told_done r' ≡ t) × (new' ≡ left) → (r ≡ r') × (new ≡ new')
+done_left = one_left told_done done_of done_read
+
+pub write_left : (t : Told) (left : List ℕ) (r r' : Result (Unit {0}) WriteError) (new new' : List ℕ) → (told_write r ≡ t) × (new ≡ left)
+    → (told_write r' ≡ t) × (new' ≡ left) → (r ≡ r') × (new ≡ new')
+write_left = one_left told_write write_of write_read
 
 -- `try_from_raw`
-pub one_read : (bs : List ℕ) (r r' : Outcome) → told r ≡ read_told bs → told r' ≡ read_told bs → r ≡ r'
-one_read bs = one_outcome (read_told bs)
+pub one_read : (bs : List ℕ) (r r' : Result (Unit {0}) NotATable) → (r ≡ read_of bs) × (told_done r ≡ read_told bs) → (r' ≡ read_of bs) × (told_done r' ≡ read_told bs) → r ≡ r'
+one_read bs r r' x y = x.0 ∙ sym y.0
 
 -- `get`: the span too, and not only the bytes that it names
-pub one_got : (bs : List ℕ) (k : ℕ) (r r' : Got) → (r ≡ got_of bs k) × (told_got bs r ≡ get_told bs k) → (r' ≡ got_of bs k) × (told_got bs r' ≡ get_told bs k) → r ≡ r'
+pub one_got : (bs : List ℕ) (k : ℕ) (r r' : Result (Option Span) NotATable) → (r ≡ got_of bs k) × (told_got bs r ≡ get_told bs k) → (r' ≡ got_of bs k) × (told_got bs r' ≡ get_told bs k) → r ≡ r'
 one_got bs k r r' x y = x.0 ∙ sym y.0
 
 -- `raw`
-pub one_raw : (bs : List ℕ) (r r' : Got) → (r ≡ raw_of bs) × (told_got bs r ≡ raw_told bs) → (r' ≡ raw_of bs) × (told_got bs r' ≡ raw_told bs) → r ≡ r'
+pub one_raw : (bs : List ℕ) (r r' : Result Span NotATable) → (r ≡ raw_of bs) × (told_raw bs r ≡ raw_told bs) → (r' ≡ raw_of bs) × (told_raw bs r' ≡ raw_told bs) → r ≡ r'
 one_raw bs r r' x y = x.0 ∙ sym y.0
 
 -- `part`

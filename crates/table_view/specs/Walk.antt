@@ -1,10 +1,8 @@
 -- The straight walk for a key, over an index whose keys ascend: where it comes by, where it stops, what it has found.
 -- For inner contracts; what a lookup tells is in `Lookup`. Assumes nothing.
-use Rattle.std.specs.Prelude.{ℕ, ◌≤◌, ◌<◌, cond, List}
+use Rattle.std.specs.Prelude.{ℕ, ◌≤◌, ◌<◌, List, Result, Ok, Err}
 use Rattle.table_view.specs.Layout.{count_of, key_at}
-use Rattle.table_view.specs.declared.Indexed.{Indexed}
-use Rattle.table_view.specs.declared.Indexed.TheVariants.{At, Nothing}
-use Rattle.table_view.specs.declared.inner.Stop.{Stop}
+use Rattle.table_view.specs.declared.Place.{Place}
 
 -- the walk for key k comes to place i: every key before it is below k
 pub record ComesTo (bs : List ℕ) (k i : ℕ) : Type 0 where
@@ -16,6 +14,7 @@ pub record StopsAt (bs : List ℕ) (k i : ℕ) : Type 0 where
   pub comes : ComesTo bs k i
   pub reached : i < count_of bs → k ≤ key_at bs i
 
--- the place where it stopped, if the key stands there
-abbrev pub found_by : Stop → Indexed
-found_by s = cond s.hit (At s.place) Nothing
+-- the place where it stopped, whether the key stands there or not
+abbrev pub stop_of : Result Place Place → Place
+stop_of (Ok p) = p
+stop_of (Err p) = p

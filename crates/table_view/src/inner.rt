@@ -1,20 +1,14 @@
 // Where things stand in a client table, the reading rules, and the lookup. Each function asks for as much of the rules
 // as it leans on.
 ghost use Rattle.std.specs.Prelude.{◌≡◌, true, ◌+◌, ◌*◌, ◌≤◌, ◌<◌, length};
+ghost use Rattle.std.specs.Result.{result_ok};
 ghost use Rattle.wire.specs.Number.{word};
 ghost use Rattle.table_view.specs.Layout.{count_of, values_len, base_of, end_of, key_at, var_at, off_at, next_at, head_at, start_at, cap_at, len_at, value_at};
 ghost use Rattle.table_view.specs.Rules.{index_entry_ok, index_ok, value_ok, values_ok, accepts};
 ghost use Rattle.table_view.specs.Lookup.{index_place};
-ghost use Rattle.table_view.specs.Walk.{ComesTo, StopsAt, found_by};
+ghost use Rattle.table_view.specs.Walk.{ComesTo, StopsAt, stop_of};
 
-use crate::{Indexed, Key, Place};
-
-// Where a walk for a key stopped, and whether the key stands there.
-#[derive(Clone, Copy)]
-pub struct Stop {
-    pub place: Place,
-    pub hit: bool,
-}
+use crate::{Key, Place};
 
 // A number of the table. Its bound serves the sums that follow.
 pub fn number(t: &[u8], at: usize) -> usize
@@ -146,15 +140,13 @@ fn index_ok(t: &[u8]) -> bool
     let n = number(t, 0);
     let mut last = Key(0);
     let mut from = 0;
-    let mut i = 0;
-    while i < n {
+    for i in 0..n {
         let p = Place(i);
         if !entry_ok(t, p, last, from) {
             return false;
         }
         last = key_at(t, p);
         from = offset_at(t, p);
-        i += 1;
     }
     true
 }
@@ -183,12 +175,10 @@ pub fn values_ok(t: &[u8]) -> bool
     ensures { result ≡ values_ok t.now (count_of t.now) 0 }
 {
     let n = number(t, 0);
-    let mut i = 0;
-    while i < n {
+    for i in 0..n {
         if !value_ok(t, Place(i)) {
             return false;
         }
-        i += 1;
     }
     true
 }
@@ -210,11 +200,13 @@ pub fn is_table(raw: &[u8]) -> bool
 }
 
 // The straight walk for a key: from a place that it comes to, on to the first key that is not below it, or to the end
-// of the index. It steps before it tests, which takes less code.
-pub fn walk_from(t: &[u8], key: Key, from: Place) -> Stop
+// of the index. It answers as a search in a sorted slice does: where the key stands, or would stand.
+//
+// By hand: it steps before it tests, which costs 9 instructions a key; a `for` over the places costs 12.
+pub fn walk_from(t: &[u8], key: Key, from: Place) -> Result<Place, Place>
     requires t_value { accepts t.now ≡ true }
     requires comes_to { ComesTo t.now key.0 from.0 }
-    ensures { StopsAt t.now key.0 result.place.0 × (found_by result ≡ index_place t.now key.0) }
+    ensures { StopsAt t.now key.0 (stop_of result).0 × (result_ok result ≡ index_place t.now key.0) }
 {
     let n = number(t, 0);
     let mut next = from;
@@ -223,37 +215,27 @@ pub fn walk_from(t: &[u8], key: Key, from: Place) -> Stop
         let k = key_at(t, p);
         next = Place(p.0 + 1);
         if key.0 <= k.0 {
-            return Stop {
-                place: p,
-                hit: k.0 == key.0,
-            };
+            return if k == key { Ok(p) } else { Err(p) };
         }
     }
-    Stop {
-        place: next,
-        hit: false,
-    }
+    Err(next)
 }
 
-// What a walk has found where it stopped.
-pub fn found_by(s: Stop) -> Indexed
-    ensures { result ≡ found_by s }
+// Where a walk stopped, whether the key stands there or not.
+pub fn stop_of(stop: Result<Place, Place>) -> Place
+    ensures { result ≡ stop_of stop }
 {
-    let p = s.place;
-    if s.hit {
-        Indexed::At(p)
-    } else {
-        Indexed::Nothing
+    match stop {
+        Ok(p) | Err(p) => p,
     }
 }
 
 // The place of a key in the index. A key of 0x8000 or more has none: the index holds keys without their flag.
-pub fn find(t: &[u8], key: Key) -> Indexed
+pub fn find(t: &[u8], key: Key) -> Option<Place>
     requires { accepts t.now ≡ true }
     ensures { result ≡ index_place t.now key.0 }
 {
-    let s = walk_from(t, key, Place(0));
-    found_by(s)
+    walk_from(t, key, Place(0)).ok()
 }
 
 // The value at a place.

@@ -1,174 +1,69 @@
 // The lines of a session, one after another, over the memory that the calls share.
-use crate::calls;
-use bench_memory::memory;
-use bench_memory::memory::Bench;
-use bench_memory::prepared::{LINKS, Numbers};
+use bench_memory::memory::{Hub, Stock};
 use bench_opening::{opening, pending};
-use lines::input::{Feed, Line};
-use lines::{input, parts, say, words};
+use lines::input::{Feed, TooLong};
+use lines::{parts, say, words};
 use std::io;
-use wire::least;
-use wire::sizes::{
-    PreparedBytes, RECORD_SIZE, Record, SLOT_SIZE, SLOTS, SlotBytes, TABLE_SIZE, Table, VALUE_SIZE,
-};
+use wire::sizes::{TABLE_SIZE, Table};
 
-// Whether a line is no call but passed on: an empty one, or a comment.
-fn echoed<R: Print>(rt: &R, line: &[u8]) -> io::Result<bool> {
-    if line.len() == 0 {
-        say::line(rt, line)?;
-        return Ok(true);
-    }
-    if line[0] == b'#' {
-        say::line(rt, line)?;
-        return Ok(true);
-    }
-    Ok(false)
+// What the bench remembers from line to line: what the next hub is opened from, the hub that is open, and a builder and
+// a table of its own.
+#[derive(Drop)]
+struct Bench {
+    pending: Stock,
+    hub: Option<Hub>,
+    builder: Table,
+    table: Table,
 }
 
-// The calls on what is open, or opens it.
-fn on_hub<R: Print>(
-    rt: &R,
-    line: &[u8],
-    pending: &[Record],
-    kept: &[u8],
-    list: &mut [Record],
-    store: &mut [u8],
-    row: &mut [SlotBytes],
-    tables: &mut [Table],
-    waiting: &mut [Numbers; LINKS],
-    bytes: &mut [PreparedBytes; LINKS],
-    b: Bench,
-) -> io::Result<Bench> {
-    if words::is_call(line, b"open", 0) {
-        let n = least(b.pending, pending.len());
-        let m = least(b.kept, kept.len());
-        return opening::open(
-            rt,
-            &pending[..n],
-            &kept[..m],
-            list,
-            store,
-            row,
-            tables,
-            waiting,
-            b,
-        );
+impl Bench {
+    fn new() -> Bench {
+        Bench {
+            pending: Stock::new(),
+            hub: None,
+            builder: [0; TABLE_SIZE],
+            table: [0; TABLE_SIZE],
+        }
     }
-    let n = least(b.entries, list.len());
-    let m = least(b.store, store.len());
-    let t = calls::answer(
-        rt,
-        line,
-        &mut list[..n],
-        &mut store[..m],
-        row,
-        tables,
-        waiting,
-        bytes,
-        b,
-    )?;
-    if !t.known {
-        say::no_call(rt)?;
-    }
-    let next = t.bench;
-    Ok(next)
 }
 
-// Answers a line that is a call on the pending list or on a hub, or none.
-fn answer<R: Print>(
-    rt: &R,
-    line: &[u8; 8200],
-    len: usize,
-    pending: &mut [Record; 65],
-    kept: &mut [u8; 4100],
-    list: &mut [Record; 65],
-    store: &mut [u8; 4100],
-    row: &mut [SlotBytes; SLOTS],
-    tables: &mut [Table; SLOTS],
-    waiting: &mut [Numbers; LINKS],
-    bytes: &mut [PreparedBytes; LINKS],
-    b: Bench,
-) -> io::Result<Bench> {
-    let l = parts::front(line, len);
-    let t = pending::answer(rt, l, pending, kept, b)?;
-    let next = t.bench;
-    if t.known {
-        return Ok(next);
+// Whether the line was a call: on the bench's own builder and table, on the pending list and store, or on a hub.
+fn is_answered<R: Print>(rt: &R, line: &[u8], b: &mut Bench) -> io::Result<bool> {
+    if let (b"open", 0) = words::call(line) {
+        opening::open(rt, &b.pending, &mut b.hub)?;
+        return Ok(true);
     }
-    on_hub(
-        rt, l, pending, kept, list, store, row, tables, waiting, bytes, b,
+    Ok(
+        bench_tables::answer(rt, line, &mut b.builder, &mut b.table)?
+            || pending::answer(rt, line, &mut b.pending)?
+            || bench_values::answer(rt, line, b.hub.as_mut())?
+            || bench_peers::answer(rt, line, b.hub.as_mut())?
+            || bench_pokes::answer(rt, line, b.hub.as_mut())?
+            || bench_requests::serve::answer(rt, line, b.hub.as_mut())?,
     )
 }
 
-// Whether a line is answered without these: echoed, too long, or a call on the bench's own builder and table.
-fn is_apart<R: Print>(
-    rt: &R,
-    line: &[u8; 8200],
-    len: usize,
-    builder: &mut Table,
-    table: &mut Table,
-) -> io::Result<bool> {
-    if 8200 < len {
-        say::no_call(rt)?;
-        return Ok(true);
+// Answers a line. An empty one, and a comment, is passed on.
+fn answer<R: Print>(rt: &R, line: &[u8], b: &mut Bench) -> io::Result<()> {
+    match line {
+        [] | [b'#', ..] => say::line(rt, line),
+        _ if is_answered(rt, line, b)? => Ok(()),
+        _ => say::no_call(rt),
     }
-    if echoed(rt, parts::front(line, len))? {
-        return Ok(true);
-    }
-    bench_tables::answer(rt, parts::front(line, len), builder, table)
 }
 
-fn next<R: Input>(
-    rt: &R,
-    feed: Feed,
-    chunk: &mut [u8; 65536],
-    line: &mut [u8; 8200],
-) -> io::Result<Line> {
-    input::next(rt, feed, chunk, line)
-}
-
-// Answers the session on standard input, to its end.
+// Answers the session on standard input, to its end. Nothing says that it has one, so the loop has a number of turns
+// that no run uses up.
 pub fn run<R: Input + Print>(rt: &R) -> io::Result<()> {
-    let mut chunk = [0u8; 65536];
-    let mut line = [0u8; 8200];
-    let mut pending = [[0u8; RECORD_SIZE]; 65];
-    let mut kept = [0u8; 4100];
-    let mut list = [[0u8; RECORD_SIZE]; 65];
-    let mut store = [0u8; 4100];
-    let mut row = [[0u8; SLOT_SIZE]; SLOTS];
-    let mut tables = [[0u8; TABLE_SIZE]; SLOTS];
-    let mut waiting = [[0u16; 3]; LINKS];
-    let mut bytes = [[0u8; VALUE_SIZE]; LINKS];
-    let mut builder = [0u8; TABLE_SIZE];
-    let mut table = [0u8; TABLE_SIZE];
-    let mut b = memory::fresh();
-    let mut feed = input::start();
-    let mut turns = u64::MAX;
-    while turns > 0 {
-        let l = next(rt, feed, &mut chunk, &mut line)?;
-        feed = l.feed;
-        if l.last {
-            if l.len == 0 {
-                return Ok(());
-            }
+    let mut feed = Feed::new();
+    let mut line = [0; 8200];
+    let mut bench = Bench::new();
+    for _ in 0..u64::MAX {
+        match feed.next(rt, &mut line)? {
+            Some(Ok(n)) => answer(rt, parts::front(&line, n), &mut bench)?,
+            Some(Err(TooLong)) => say::no_call(rt)?,
+            None => break,
         }
-        if !is_apart(rt, &line, l.len, &mut builder, &mut table)? {
-            b = answer(
-                rt,
-                &line,
-                l.len,
-                &mut pending,
-                &mut kept,
-                &mut list,
-                &mut store,
-                &mut row,
-                &mut tables,
-                &mut waiting,
-                &mut bytes,
-                b,
-            )?;
-        }
-        turns -= 1;
     }
     Ok(())
 }

@@ -2,5 +2,4 @@
 // No input makes it stop: what is no call is answered `?`.
 #![tactic(auto)]
 
-mod calls;
 pub mod desk;

@@ -1,4 +1,4 @@
--- Turns of the loops that put bytes and hex pairs. Assumes nothing.
+-- Turns of the loop that puts hex pairs. Assumes nothing.
 use mathlib.Core.Path.{◌≡◌, refl}
 use mathlib.Core.List.{List, [], ◌∷◌}
 use Prim.Native.Nat.{ℕ, ◌+◌, ◌*◌, ◌/◌, ◌%◌, ◌≤◌, ◌<◌}
@@ -16,17 +16,6 @@ one_left d i h = rw add-one (drop-cons d i 0 h)
 pair_left : (d : List ℕ) (i : ℕ) → i < length d → hex_of (drop i d) ≡ digit_of (get_or d i 0 / 16) ∷ digit_of (get_or d i 0 % 16) ∷ hex_of (drop (i + 1) d)
 unfolding hex_of
 pair_left d i h = rw (one_left d i h)
-
--- bytes as they are, from place i of d on
-module _ (old : List ℕ) (at : ℕ) (d out : List ℕ) (next i : ℕ) (g : Going old at d out next (drop i d)) where
-  pub byte_short : Short at d → i < length d → Short next (get_or d i 0 ∷ [])
-  byte_short s h = going_short old at d out next (get_or d i 0 ∷ []) (drop (i + 1) d) (rw (one_left d i h) at g) s
-
-  pub byte_more : (new : List ℕ) (last : ℕ) → i < length d → Put out new next last (get_or d i 0 ∷ []) → Going old at d new last (drop (i + 1) d)
-  byte_more new last h p = going_more old at d out new next last (get_or d i 0 ∷ []) (drop (i + 1) d) (rw (one_left d i h) at g) p
-
-  pub byte_end : length d ≤ i → Put old out at next d
-  byte_end h = going_end old at d out next (rw (drop_of_length-le d h) at g)
 
 -- hex pairs, from place i of d on
 module _ (old : List ℕ) (at : ℕ) (d out : List ℕ) (next i : ℕ) (g : Going old at (hex_of d) out next (hex_of (drop i d))) where

@@ -7,14 +7,16 @@ ghost use Rattle.text.specs.Decimal.{decimal_of};
 ghost use Rattle.text.specs.Put.{Put, Short};
 
 // A number below 16 as a digit: 0 to 9, then the capitals A to F.
+#[tactic(auto, unfolding(crate::specs::Hex::digit_of))]
 fn digit(n: u8) -> u8
     requires { n < 16 }
     ensures { result ≡ digit_of n }
 {
-    if n < 10 { 48 + n } else { 55 + n }
+    if n < 10 { b'0' + n } else { b'A' + (n - 10) }
 }
 
 // Puts one byte.
+#[tactic(auto, using(crate::proofs::Pieces::no_room))]
 fn byte(out: &mut [u8], at: usize, b: u8) -> usize
     requires { Short at (b ∷ []) }
     ensures { Put out.old out.new at result (b ∷ []) }
@@ -32,10 +34,8 @@ pub fn bytes(out: &mut [u8], at: usize, d: &[u8]) -> usize
     ensures { Put out.old out.new at result d.now }
 {
     let mut next = at;
-    let mut i = 0;
-    while i < d.len() {
-        next = byte(out, next, d[i]);
-        i += 1;
+    for b in d {
+        next = byte(out, next, *b);
     }
     next
 }
@@ -46,12 +46,9 @@ pub fn hex(out: &mut [u8], at: usize, d: &[u8]) -> usize
     ensures { Put out.old out.new at result (hex_of d.now) }
 {
     let mut next = at;
-    let mut i = 0;
-    while i < d.len() {
-        let b = d[i];
-        let low = byte(out, next, digit(b / 16));
-        next = byte(out, low, digit(b % 16));
-        i += 1;
+    for b in d {
+        let low = byte(out, next, digit(*b / 16));
+        next = byte(out, low, digit(*b % 16));
     }
     next
 }

@@ -4,68 +4,64 @@
 
 mod say;
 
-use hub_facts::say::{line, say};
 use lines::parts;
-use say::{say_outcome, say_pushed, say_value};
+use lines::say::{line, say};
+use say::{say_pushed, say_value, say_written};
 use std::io;
 use table_printer::TEXT_SIZE;
-use table_view::Key;
+use table_view::{Key, WriteError};
 use wire::sizes::{TABLE_SIZE, Table};
 
 // T: key 3 fixed 2 and key 5 variable 8.
 fn table_t() -> Table {
     let mut b = table_builder::new();
-    table_builder::push(&mut b, Key(3), 2, false);
-    table_builder::push(&mut b, Key(5), 8, true);
+    let _ = table_builder::push(&mut b, Key(3), 2, false);
+    let _ = table_builder::push(&mut b, Key(5), 8, true);
     let mut t = [0u8; TABLE_SIZE];
-    table_builder::build(&b, &mut t);
+    let _ = table_builder::build(&b, &mut t);
     t
 }
 
 // The bytes of a table, what a key of it reads, and its lines.
 fn say_bytes<R: Print>(rt: &R, t: &Table) -> io::Result<()> {
-    say_value(rt, t, table_view::raw(t))
+    say_value(rt, t, table_view::raw(t).map(Some))
 }
 
 fn say_key<R: Print>(rt: &R, t: &Table, key: Key) -> io::Result<()> {
     say_value(rt, t, table_view::get(t, key))
 }
 
-fn say_lines<R: Print>(rt: &R, raw: &[u8]) -> io::Result<()> {
-    let mut text = [0u8; TEXT_SIZE];
+fn print<R: Print>(rt: &R, raw: &[u8]) -> io::Result<()> {
+    let mut text = [0; TEXT_SIZE];
     let n = table_printer::write_lines(raw, &mut text);
     say(rt, parts::front(&text, n))
-}
-
-fn print<R: Print>(rt: &R, t: &Table) -> io::Result<()> {
-    say_lines(rt, t)
 }
 
 // What a write of d to key 5 of a copy of the table answers, and what 5 reads then.
 fn say_write<R: Print>(rt: &R, t: &Table, offset: usize, d: &[u8]) -> io::Result<()> {
     let mut copy = *t;
-    say_outcome(rt, client_att_table::write(&mut copy, Key(5), offset, d))?;
+    say_written(rt, client_att_table::write(&mut copy, Key(5), offset, d))?;
     say(rt, b"; 5 reads ")?;
     say_key(rt, &copy, Key(5))?;
-    line(rt)
+    line(rt, b"")
 }
 
 // 3E1047, and then 3E10, written to key 5.
 fn write_codes(t: &mut Table) {
-    client_att_table::write(t, Key(5), 0, b"3E1047");
-    client_att_table::write(t, Key(5), 0, b"3E10");
+    let _ = client_att_table::write(t, Key(5), 0, b"3E1047");
+    let _ = client_att_table::write(t, Key(5), 0, b"3E10");
 }
 
 fn say_codes<R: Print>(rt: &R, t: &mut Table) -> io::Result<()> {
     say(rt, b"* T fresh: ")?;
     say_bytes(rt, t)?;
-    line(rt)?;
+    line(rt, b"")?;
     write_codes(t);
     say(rt, b"* 3E1047 then 3E10 written to 5: ")?;
     say_bytes(rt, t)?;
     say(rt, b"; 5 reads ")?;
     say_key(rt, t, Key(5))?;
-    line(rt)
+    line(rt, b"")
 }
 
 fn say_writes<R: Print>(rt: &R, t: &Table) -> io::Result<()> {
@@ -87,8 +83,8 @@ fn written_facts<R: Print>(rt: &R) -> io::Result<()> {
 
 // Whether saved bytes are a table.
 fn say_saved<R: Print>(rt: &R, raw: &[u8]) -> io::Result<()> {
-    say_outcome(rt, table_view::try_from_raw(raw))?;
-    line(rt)
+    say_written(rt, table_view::try_from_raw(raw).map_err(WriteError::from))?;
+    line(rt, b"")
 }
 
 fn saved_facts<R: Print>(rt: &R) -> io::Result<()> {
@@ -104,14 +100,14 @@ fn loose_fact<R: Print>(rt: &R) -> io::Result<()> {
     let loose = [1u8, 0, 3, 0, 1, 0, 2, 0, 0xAA, 0xBB, 0xCC];
     say(rt, b"* Saved 0100030001000200AABBCC: key 1 is ")?;
     say_value(rt, &loose, table_view::get(&loose, Key(1)))?;
-    line(rt)
+    line(rt, b"")
 }
 
 // What a push to a new builder answers.
 fn say_push<R: Print>(rt: &R, key: u16, n: u16) -> io::Result<()> {
     let mut b = table_builder::new();
     say_pushed(rt, table_builder::push(&mut b, Key(key), n, false))?;
-    line(rt)
+    line(rt, b"")
 }
 
 fn push_facts<R: Print>(rt: &R) -> io::Result<()> {
@@ -130,14 +126,14 @@ fn printer_facts<R: Print>(rt: &R) -> io::Result<()> {
     let mut t = table_t();
     write_codes(&mut t);
     print(rt, &t)?;
-    client_att_table::clear(&mut t);
+    let _ = client_att_table::clear(&mut t);
     print(rt, &t)?;
     let short = [0u8; 3];
-    say_lines(rt, &short)?;
+    print(rt, &short)?;
     let longest = [0u8; 65536];
-    say_lines(rt, &longest)?;
+    print(rt, &longest)?;
     let longer = [0u8; 65537];
-    say_lines(rt, &longer)
+    print(rt, &longer)
 }
 
 fn main(rt: HostRuntime) -> io::Result<()> {

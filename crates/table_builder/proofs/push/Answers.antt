@@ -1,25 +1,11 @@
--- `table_builder::push` meets its contract. `judge`'s answer is the plan. An Added one has passed every test, which is
--- what `add` asks for (`adds`), and any other leaves the bytes (`stays`).
--- Assumes nothing.
-use mathlib.Core.Path.{sym, ap, ◌∙◌}
+-- `table_builder::push` meets its contract. Where `judge` answers `Ok` every test has passed, which is what `add` asks
+-- for (`adds`). Assumes nothing.
+use mathlib.Core.Path.{sym, ◌∙◌}
 use native.Mathlib.Omega.{arith}
-use Rattle.table_builder.specs.Push.{told_pushed}
-use Rattle.table_builder.proofs.Laws.{adds, stays}
+use Rattle.table_builder.proofs.Laws.{adds}
 use Rattle.table_builder.proofs.push.Goals as goal
 
 pub add-requires : goal.add-requires
 add-requires c =
-    let a = adds _ _ _ _ (sym c.judge-plan.ensures ∙ c.in-Added.is) in
+    let a = adds _ _ _ _ (sym c.judge.ensures ∙ c.in_ok-judge.was) in
     record { in_bounds = omega (arith, a.key, a.room); table_bytes_in_bounds = omega (arith, a.key, a.room) }
-
-pub returns-in-Added : goal.returns-in-Added
-returns-in-Added c = (
-  ap told_pushed c.judge-plan.ensures,
-  rw (sym c.judge-plan.ensures ∙ c.in-Added.is) c.add.ensures,
-)
-
-pub returns-in_default : goal.returns-in_default
-returns-in_default c = (
-  ap told_pushed c.judge-plan.ensures,
-  stays _ _ _ (λ e. c.in_default.not-Added (c.judge-plan.ensures ∙ e)),
-)

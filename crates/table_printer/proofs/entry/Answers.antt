@@ -20,9 +20,6 @@ pub line-requires : goal.line-requires
 line-requires c =
     short_as _ _ _ c.requires.short (entry_line_lem c.args.t.now c.args.p.0 _ _ _ c.key_at-key.ensures c.is_variable-variable.ensures c.value.ensures)
 
-pub shape_of-out : goal.shape_of-out
-shape_of-out c = c.line.auto.out
-
 pub returns : goal.returns
 returns c =
     put_as _ _ _ _ _ _ c.line.ensures (entry_line_lem c.args.t.now c.args.p.0 _ _ _ c.key_at-key.ensures c.is_variable-variable.ensures c.value.ensures)

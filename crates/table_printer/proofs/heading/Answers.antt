@@ -1,5 +1,4 @@
 -- `table_printer::heading` meets its contract: three pieces. Assumes nothing.
-use mathlib.Core.Path.{◌∙◌}
 use native.Mathlib.Omega.{arith}
 use Rattle.table_printer.proofs.Size.{heading_length}
 use Rattle.table_printer.proofs.Putting.{heading_put}
@@ -15,10 +14,6 @@ decimal-end-requires c =
 pub bytes-requires : goal.bytes-requires
 bytes-requires c =
     omega (arith, heading_length c.args.n, c.requires, c.bytes-word.ensures.place, c.decimal-end.ensures.place)
-
-pub shape_of-out : goal.shape_of-out
-shape_of-out c =
-    c.bytes.auto.out ∙ c.decimal-end.auto.out ∙ c.bytes-word.auto.out
 
 pub returns : goal.returns
 returns c =

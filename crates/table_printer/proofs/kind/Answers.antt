@@ -6,9 +6,6 @@ pub bytes-requires : goal.bytes-requires
 bytes-requires c =
     v_short _ _ c.requires c.if-variable.true
 
-pub shape_of-out-then-variable : goal.shape_of-out-then-variable
-shape_of-out-then-variable c = c.bytes.auto.out
-
 pub returns-then-variable : goal.returns-then-variable
 returns-then-variable c =
     v_put _ _ _ _ _ c.bytes.ensures c.if-variable.true
@@ -16,9 +13,6 @@ returns-then-variable c =
 pub bytes-requires-2 : goal.bytes-requires-2
 bytes-requires-2 c =
     f_short _ _ c.requires c.if-variable.false
-
-pub shape_of-out : goal.shape_of-out
-shape_of-out c = c.bytes-2.auto.out
 
 pub returns : goal.returns
 returns c =

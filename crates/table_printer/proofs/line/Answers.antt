@@ -1,5 +1,4 @@
 -- `table_printer::line` meets its contract: six pieces. Assumes nothing.
-use mathlib.Core.Path.{◌∙◌}
 use Prim.Native.Nat.{◌+◌, ◌<◌}
 use native.Mathlib.Omega.{arith}
 use lib.ListN.{length}
@@ -36,10 +35,6 @@ value-end-requires c =
 pub bytes-requires : goal.bytes-requires
 bytes-requires c =
     omega (arith, short (goal.at.bytes-requires c).Start, c.decimal-form.ensures.place, c.kind-len.ensures.place, c.decimal-space.ensures.place, c.bytes-hex.ensures.place, c.value-end.ensures.place)
-
-pub shape_of-out : goal.shape_of-out
-shape_of-out c =
-    c.bytes.auto.out ∙ c.value-end.auto.out ∙ c.bytes-hex.auto.out ∙ c.decimal-space.auto.out ∙ c.kind-len.auto.out ∙ c.decimal-form.auto.out
 
 pub returns : goal.returns
 returns c =

@@ -1,4 +1,3 @@
-use mathlib.Core.Path.{◌∙◌}
 use native.Mathlib.Omega.{arith}
 use Rattle.table_view.proofs.Shape.{long}
 use Rattle.table_printer.proofs.Putting.{entry_short, entry_more, entry_end, all_put, all_going, heading_short, entries_short}
@@ -13,27 +12,17 @@ heading-next-requires c =
 
 pub loop-i-init : goal.loop-i-init
 loop-i-init c =
-    (omega arith, all_going _ _ c.count-n.ensures.0 _ _)
+    all_going _ _ c.count-n.ensures.0 _ _
 
 pub entry-next-requires : goal.entry-next-requires
 entry-next-requires c =
     let all = entries_short _ _ c.count-n.ensures.0 c.requires.0 c.requires.1 _ c.heading-next.ensures.place in
-    record { t_value = (c.requires.0, omega (arith, c.count-n.ensures.0, c.loop-i-test.true)); short = entry_short _ _ _ _ _ _ _ _ c.loop-i.invariant.1 all c.loop-i-test.true }
-
-pub overflow_add-i : goal.overflow_add-i
-overflow_add-i c = omega arith
-
-pub loop-i-smaller : goal.loop-i-smaller
-loop-i-smaller c = omega arith
+    record { t_value = (c.requires.0, omega (arith, c.count-n.ensures.0, c.loop-i-test.true)); short = entry_short _ _ _ _ _ _ _ _ c.loop-i.invariant all c.loop-i-test.true }
 
 pub loop-i-preserved : goal.loop-i-preserved
 loop-i-preserved c =
-    (omega arith, entry_more _ _ _ _ _ _ _ _ c.loop-i.invariant.1 _ _ c.loop-i-test.true c.entry-next.ensures)
-
-pub shape_of-out : goal.shape_of-out
-shape_of-out c =
-    c.loop-i.invariant.1.size ∙ c.heading-next.auto.out
+    entry_more _ _ _ _ _ _ _ _ c.loop-i.invariant _ _ c.loop-i-test.true c.entry-next.ensures
 
 pub returns : goal.returns
 returns c =
-    all_put _ _ c.count-n.ensures.0 _ _ _ _ _ c.heading-next.ensures (entry_end _ _ _ _ _ _ _ _ c.loop-i.invariant.1 c.loop-i-test.false)
+    all_put _ _ c.count-n.ensures.0 _ _ _ _ _ c.heading-next.ensures (entry_end _ _ _ _ _ _ _ _ c.loop-i.invariant (omega (arith, c.loop-i-test.false)))

@@ -4,8 +4,8 @@ use Rattle.table_view.proofs.part.Goals as goal
 
 pub returns-then-from-to : goal.returns-then-from-to
 returns-then-from-to c =
-    part_cut _ c.args.s.from c.args.s.to _ c.least-to.ensures c.if-from-to.true
+    part_cut _ c.args.s.from c.args.s.to _ c.min-to.ensures c.if-from-to.true
 
 pub returns-else-from-to : goal.returns-else-from-to
 returns-else-from-to c =
-    part_none _ c.args.s.from c.args.s.to _ c.least-to.ensures c.if-from-to.false
+    part_none _ c.args.s.from c.args.s.to _ c.min-to.ensures c.if-from-to.false

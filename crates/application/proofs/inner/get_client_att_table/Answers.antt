@@ -10,13 +10,13 @@ pub returns-in_default : goal.returns-in_default
 returns-in_default c =
     no_table _ _ c.args.out.now c.in_default.is
 
-pub offset_bounds-tables-at : goal.offset_bounds-tables-at
-offset_bounds-tables-at c =
-    omega (arith, slot_there _ _ c.requires.0 _ c.in-At.is, c.requires.0.tables.eight)
+pub offset_bounds-tables-k : goal.offset_bounds-tables-k
+offset_bounds-tables-k c =
+    omega (arith, slot_there _ _ c.requires.0 _ c.in-Some.is, c.requires.0.tables.eight)
 
-pub bounds-tables-at : goal.bounds-tables-at
-bounds-tables-at c =
-    slot_there _ _ c.requires.0 _ c.in-At.is
+pub bounds-tables-k : goal.bounds-tables-k
+bounds-tables-k c =
+    slot_there _ _ c.requires.0 _ c.in-Some.is
 
 pub copy-requires : goal.copy-requires
 copy-requires c =
@@ -24,5 +24,5 @@ copy-requires c =
 
 pub returns : goal.returns
 returns c =
-    table_copied _ _ c.args.out.now _ c.in-At.is (search rules) c.requires.1 _
+    table_copied _ _ c.args.out.now _ c.in-Some.is (search rules) c.requires.1 _
     c.copy.ensures

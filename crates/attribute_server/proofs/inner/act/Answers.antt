@@ -1,11 +1,13 @@
 -- `attribute_server::inner::act` meets its contract: a refusal leaves everything, and a valid state is ready for the
 -- move. Assumes nothing.
 use mathlib.Core.Path.{sym, ap, ◌∙◌}
+use Rattle.std.proofs.lemmas.Result.{err_from_is_err_and}
 use native.Mathlib.Omega.{arith}
 use Rattle.peers.proofs.Rows.{length_row}
+use Rattle.peers.specs.Slots.{tables_moved}
 use Rattle.state.specs.State.{State, lent, after_move}
 use Rattle.state.proofs.Keeping.{tables_read, eight_slots}
-use Rattle.admission.proofs.Admitting.{admitted, told_no, told_yes, left_no, left_yes}
+use Rattle.admission.proofs.Admitting.{admitted, left_no, left_yes}
 use Rattle.attribute_server.proofs.inner.act.Goals as goal
 use Rattle.attribute_server.proofs.inner.act.Goals.{Start}
 
@@ -13,36 +15,31 @@ use Rattle.attribute_server.proofs.inner.act.Goals.{Start}
 was : (c : Start) → State
 was c = lent c.args.list.now c.args.store.now c.args.row.now c.args.tables.now
 
-pub returns-in-No : goal.returns-in-No
+pub returns-in_err-admit : goal.returns-in_err-admit
 unfolding was
-returns-in-No c =
-    let d = sym c.admit.ensures ∙ c.in-No.is in (
-      told_no _ _ _ d,
-      left_no _ _ _ _ d,
-      ap (λ (s : State). s.tables) (left_no _ _ (was (goal.at.returns-in-No c).Start) (after_move (was (goal.at.returns-in-No c).Start) c.args.m) d),
-    )
+returns-in_err-admit c =
+    let p = err_from_is_err_and c.from_residual.result c.from_residual.ensures.1 in
+    let d = sym c.in_err-admit.was ∙ c.admit.ensures in
+    let s = was (goal.at.returns-in_err-admit c).Start in
+    rw (p.1, p.2) (d, ap (λ (s : State). s.tables) (left_no _ _ s (after_move s c.args.m) (sym d)))
 
 pub settle-requires : goal.settle-requires
 settle-requires c =
-    let v = (admitted _ _ _ (sym c.admit.ensures ∙ c.in_default.is)).right in
-    (tables_read _ v, λ h. omega (arith, c.requires h, length_row c.args.row.now, eight_slots _ v))
+    let v = (admitted _ _ _ (sym c.admit.ensures ∙ c.in_ok-admit.was)).right in
+    (tables_read _ v, λ h. omega (arith, c.requires _ c.in-Some.is h, length_row c.args.row.now, eight_slots _ v))
 
-pub returns-then-m : goal.returns-then-m
+pub returns-in-Some : goal.returns-in-Some
 unfolding was
-returns-then-m c =
-    let d = sym c.admit.ensures ∙ c.in_default.is in (
-      rw c.if-m.true (told_yes _ _ d),
-      left_yes _ _ _ d,
-      c.settle.ensures ∙ ap (λ (s : State). s.tables)
-          (left_yes _ (was (goal.at.returns-then-m c).Start) (after_move (was (goal.at.returns-then-m c).Start) c.args.m) d),
-    )
+returns-in-Some c =
+    let d = sym c.in_ok-admit.was ∙ c.admit.ensures in
+    let s = was (goal.at.returns-in-Some c).Start in
+    let l = ap (λ (s : State). s.tables) (left_yes _ s (after_move s c.args.m) (sym d)) in
+    (d, c.settle.ensures ∙ ap (tables_moved s.tables) (sym c.in-Some.is) ∙ l)
 
-pub returns : goal.returns
+pub returns-in_default : goal.returns-in_default
 unfolding was
-returns c =
-    let d = sym c.admit.ensures ∙ c.in_default.is in (
-      rw c.if-m.false (told_yes _ _ d),
-      left_yes _ _ _ d,
-      c.settle.ensures ∙ ap (λ (s : State). s.tables)
-          (left_yes _ (was (goal.at.returns c).Start) (after_move (was (goal.at.returns c).Start) c.args.m) d),
-    )
+returns-in_default c =
+    let d = sym c.in_ok-admit.was ∙ c.admit.ensures in
+    let s = was (goal.at.returns-in_default c).Start in
+    let l = ap (λ (s : State). s.tables) (left_yes _ s (after_move s c.args.m) (sym d)) in
+    (d, ap (tables_moved s.tables) (sym c.in_default.is) ∙ l)

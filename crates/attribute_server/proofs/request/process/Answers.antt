@@ -26,10 +26,10 @@ waits c = waiting c.args.p c.args.bytes.now
 abbrev asked : (c : Start) → Query
 asked c = query c.args.who c.args.link c.args.rq c.args.d.now
 
-pub returns-in-No : goal.returns-in-No
-returns-in-No c =
-    process_refused (was (goal.at.returns-in-No c).Start) (waits (goal.at.returns-in-No c).Start) (asked (goal.at.returns-in-No c).Start) c.args.out.now c.with_record.result _
-    (sym c.admit_request.ensures ∙ c.in-No.is) c.with_record.ensures.0
+pub returns-in-Err : goal.returns-in-Err
+returns-in-Err c =
+    process_refused (was (goal.at.returns-in-Err c).Start) (waits (goal.at.returns-in-Err c).Start) (asked (goal.at.returns-in-Err c).Start) c.args.out.now c.with_record.result _
+    (sym c.admit_request.ensures ∙ c.in-Err.is) c.with_record.ensures.0
     c.with_record.ensures.1
 
 pub answer-requires : goal.answer-requires

@@ -1,6 +1,6 @@
 use mathlib.Core.Bool.{false}
 use mathlib.Core.List.{[]}
-use mathlib.Core.Path.{◌≡◌, refl, sym, ◌∙◌}
+use mathlib.Core.Path.{◌≡◌, sym, ◌∙◌}
 use lib.ListN.{get_or}
 use native.Mathlib.Omega.{arith}
 use Rattle.attribute_walk.specs.Walk.{is_of_type}
@@ -8,25 +8,10 @@ use Rattle.attribute_walk.proofs.Walks.{stretch_hit, stretch_miss, stretch_end, 
 use Rattle.attribute_walk.proofs.walk.find_type.Goals as goal
 use Rattle.attribute_walk.proofs.walk.find_type.Goals.{then-may_match+else-is_type, else-may_match}
 
-pub loop-i-init : goal.loop-i-init
-loop-i-init c = refl
-
-pub may_match-requires : goal.may_match-requires
-may_match-requires c = omega arith
-
-pub is_type-requires : goal.is_type-requires
-is_type-requires c = omega arith
-
 pub returns-then-is_type : goal.returns-then-is_type
 returns-then-is_type c =
     sym (stretch_hit (is_of_type _) c.args.list.now _ _ c.requires.0 c.loop-i-test.true
     (sym c.is_type.ensures ∙ c.if-is_type.true)) ∙ c.loop-i.invariant
-
-pub overflow_add-i : goal.overflow_add-i
-overflow_add-i c = omega arith
-
-pub loop-i-smaller : goal.loop-i-smaller
-loop-i-smaller c = omega arith
 
 pub loop-i-preserved : goal.loop-i-preserved
 loop-i-preserved c =
@@ -35,10 +20,10 @@ loop-i-preserved c =
     elim c.if-may_match.branch [
       | then-may_match+else-is_type w ↦ sym w.is_type.ensures ∙ w.if-is_type.false
       | else-may_match w ↦
-          match_not _ _ _ c.may_match.ensures.1 c.requires.1 (sym c.may_match.ensures.0 ∙ w.if-may_match.false)
+          match_not _ _ c.may_match.ensures.1 _ c.requires.1 (sym c.may_match.ensures.0 ∙ w.if-may_match.false)
     ] in
     sym (stretch_miss (is_of_type _) c.args.list.now _ _ c.requires.0 c.loop-i-test.true missed) ∙ c.loop-i.invariant
 
 pub returns : goal.returns
 returns c =
-    sym (stretch_end (is_of_type _) c.args.list.now _ _ c.requires.0 c.loop-i-test.false) ∙ c.loop-i.invariant
+    sym (stretch_end (is_of_type _) c.args.list.now _ _ c.requires.0 (omega (arith, c.loop-i-test.false))) ∙ c.loop-i.invariant

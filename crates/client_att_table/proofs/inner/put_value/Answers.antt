@@ -21,15 +21,15 @@ set_variable_len-requires c =
 pub copy-requires : goal.copy-requires
 copy-requires c =
     let r = room_fits _ c.requires.0 _ c.requires.1 in
-    simp length-take (omega (arith, fits _ c.requires.0, c.least-n.ensures))
+    simp length-take (omega (arith, fits _ c.requires.0, c.min-n.ensures))
 
 pub zero_at-requires : goal.zero_at-requires
 zero_at-requires c =
     let r = room_fits _ c.requires.0 _ c.requires.1 in
-    omega (arith, fits _ c.requires.0, c.least-n.ensures)
+    omega (arith, fits _ c.requires.0, c.min-n.ensures)
 
 pub returns : goal.returns
 returns c =
     took _ c.args.v.now _ _ _ _ _ _ _ c.value_start-from.ensures.0 c.capacity-cap.ensures.0
-    c.least-n.ensures c.set_variable_len.ensures c.copy.ensures
+    c.min-n.ensures c.set_variable_len.ensures c.copy.ensures
     c.zero_at.ensures

@@ -23,7 +23,6 @@ turn t₀ src n t from i key next out w h ke s e =
       ok = k.ok;
       count = count_same t _ same ∙ w.count;
       len = k.len ∙ w.len;
-      at = omega arith;
       comes =
           λ l.
           let up = ascends t w.ok i (i + 1) (omega arith) (omega (arith, w.count)) in
@@ -41,7 +40,6 @@ loop-i-init c =
       ok = c.requires.0;
       count = sym c.count-n.ensures.0;
       len = refl;
-      at = omega arith;
       comes = λ l. comes_first _ _;
       rest = none_set _ _ _ c.count-n.ensures.0;
     }
@@ -54,27 +52,21 @@ pub walk_from-stop-requires : goal.walk_from-stop-requires
 walk_from-stop-requires c = record { t_value = c.requires.1; comes_to = rw c.key_at.ensures (c.loop-i.invariant.comes c.loop-i-test.true) }
 
 pub held-requires : goal.held-requires
-held-requires c =
-    (c.requires.1, (_, c.found_by.ensures ∙ c.walk_from-stop.ensures.1))
+held-requires c = (c.requires.1, (_, c.ok.ensures.value ∙ c.walk_from-stop.ensures.1))
 
 pub put_value-requires : goal.put_value-requires
 put_value-requires c =
     (c.loop-i.invariant.ok, omega (arith, c.loop-i.invariant.count))
 
-pub overflow_add-i : goal.overflow_add-i
-overflow_add-i c = omega arith
-
-pub loop-i-smaller : goal.loop-i-smaller
-loop-i-smaller c = omega arith
-
 pub loop-i-preserved : goal.loop-i-preserved
 loop-i-preserved c =
-    turn _ _ _ _ _ _ _ _ _ c.loop-i.invariant c.loop-i-test.true c.key_at.ensures c.walk_from-stop.ensures.0
-    (took_held _ _ _ _ _ _ _ c.key_at.ensures (c.found_by.ensures ∙ c.walk_from-stop.ensures.1) c.held.ensures
-    c.put_value.ensures)
+    rw c.stop_of-from.ensures
+    (turn _ _ _ _ _ _ _ _ _ c.loop-i.invariant c.loop-i-test.true c.key_at.ensures c.walk_from-stop.ensures.0
+    (took_held _ _ _ _ _ _ _ c.key_at.ensures (c.ok.ensures.value ∙ c.walk_from-stop.ensures.1) c.held.ensures
+    c.put_value.ensures))
 
 pub shape_of-t : goal.shape_of-t
 shape_of-t c = c.loop-i.invariant.len
 
 pub returns : goal.returns
-returns c = all_set _ _ _ _ _ c.loop-i-test.false c.loop-i.invariant.rest
+returns c = all_set _ _ _ _ _ (omega (arith, c.loop-i-test.false)) c.loop-i.invariant.rest

@@ -3,7 +3,7 @@
 use mathlib.Core.Bool.{true}
 use mathlib.Core.List.{List}
 use mathlib.Core.Path.{◌≡◌}
-use Prim.Native.Nat.{ℕ, ◌-◌, ◌≤◌, ◌<◌}
+use Prim.Native.Nat.{ℕ, ◌-◌, ◌<◌}
 use lib.ListN.{length}
 use Rattle.client_att_table.specs.SetValues.{set_all}
 use Rattle.table_view.specs.Layout.{count_of, key_at}
@@ -15,12 +15,8 @@ pub record Turn (t₀ src : List ℕ) (n : ℕ) (t : List ℕ) (from i : ℕ) : 
   pub ok : accepts t ≡ true
   pub count : count_of t ≡ n
   pub len : length t ≡ length t₀
-  pub at : i ≤ n
   pub comes : i < n → ComesTo src (key_at t i) from
   pub rest : set_all src (n - i) i t ≡ set_all src (count_of t₀) 0 t₀
 
 abbrev pub invariant-loop-i : goal.invariant-loop-i
 invariant-loop-i l = Turn l.initial.t l.src l.n l.t l.from.0 l.i
-
-abbrev pub decreases-loop-i : goal.decreases-loop-i
-decreases-loop-i l = l.n - l.i

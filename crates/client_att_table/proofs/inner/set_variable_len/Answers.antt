@@ -2,7 +2,6 @@
 -- Assumes nothing.
 use mathlib.Core.Path.{sym, ◌∙◌}
 use native.Mathlib.Omega.{arith}
-use Rattle.client_att_table.proofs.Laid.{len_put, no_len}
 use Rattle.table_view.proofs.Cases.{head_var}
 use Rattle.table_view.proofs.Shape.{fits, entry_at}
 use Rattle.client_att_table.proofs.inner.set_variable_len.Goals as goal
@@ -23,11 +22,3 @@ set-requires c =
     let e = entry_at _ c.requires.0 _ c.requires.1 in
     let two = head_var _ _ (sym c.is_variable.ensures ∙ c.if-is_variable.true) in
     omega (arith, fits _ c.requires.0)
-
-pub returns-then-is_variable : goal.returns-then-is_variable
-returns-then-is_variable c =
-    c.set.ensures ∙ rw (c.values_base.ensures.0, c.offset_at.ensures.0)
-    (len_put _ _ _ (sym c.is_variable.ensures ∙ c.if-is_variable.true))
-
-pub returns-else-is_variable : goal.returns-else-is_variable
-returns-else-is_variable c = no_len _ _ _ (sym c.is_variable.ensures ∙ c.if-is_variable.false)

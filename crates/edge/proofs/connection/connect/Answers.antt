@@ -5,4 +5,4 @@ use Rattle.edge.proofs.connection.connect.Goals as goal
 
 pub returns : goal.returns
 returns c =
-    (replied c.connect-a.result _ _ c.connect-a.ensures.0 c.reply.ensures, c.connect-a.ensures.1)
+    (replied c.connect.result _ _ c.connect.ensures.0 c.from.ensures, c.connect.ensures.1)

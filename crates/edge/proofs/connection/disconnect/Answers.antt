@@ -5,6 +5,6 @@ use Rattle.edge.proofs.connection.disconnect.Goals as goal
 
 pub returns : goal.returns
 returns c = (
-  replied c.disconnect-a.result _ _ c.disconnect-a.ensures.0 c.reply.ensures,
-  c.disconnect-a.ensures.1,
+  replied c.disconnect.result _ _ c.disconnect.ensures.0 c.from.ensures,
+  c.disconnect.ensures.1,
 )

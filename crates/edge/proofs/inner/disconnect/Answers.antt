@@ -1,26 +1,28 @@
 -- `edge::inner::disconnect` meets its contract: the walk's find is the move, the row's bytes are the row. Assumes
 -- nothing.
-use mathlib.Core.Path.{◌≡◌, sym, ap, ◌∙◌}
+use Rattle.std.specs.Prelude.{Option, Ok}
+use mathlib.Core.Path.{◌≡◌, refl, sym, ap, ◌∙◌}
 use mathlib.Core.List.{List}
 use Prim.Native.Nat.{ℕ}
 use Rattle.peers.specs.declared.Identity.{Identity}
-use Rattle.peers.specs.declared.Seated.{Seated}
 use Rattle.peers.specs.Bytes.{row_of}
 use Rattle.peers.specs.Slots.{slot_of, leaving}
 use Rattle.peers.specs.declared.Slot.{Slot}
-use Rattle.peers.specs.declared.Move.{Move}
 use Rattle.peers.proofs.Rows.{length_row}
 use Rattle.state.specs.State.{state}
-use Rattle.attribute_server.specs.Connection.{move_told, move_left}
-use Rattle.attribute_server.proofs.Moving.{part_is, found_inside, leaves_inside}
-use Rattle.numbers.specs.Reply.{reply_to}
+use Rattle.attribute_server.specs.Connection.{move_left}
+use Rattle.attribute_server.proofs.Moving.{part_is, found_inside, leaves_inside, put_left}
+use Rattle.numbers.proofs.Telling.{replied}
+use Rattle.model.specs.declared.Answer.TheVariants.{Done}
+use Rattle.admission.proofs.Admitting.{told_yes}
 use Rattle.numbers.specs.Request.{is_set}
-use Rattle.edge.proofs.Joining.{joined}
+use Rattle.edge.proofs.Joining.{turned_away}
 use Rattle.edge.proofs.inner.disconnect.Goals as goal
 use Rattle.edge.proofs.inner.disconnect.Goals.{After-part-m}
+use Rattle.peers.specs.declared.Seat.{Seat}
 
 -- the own slot is the same in the row's bytes
-own_in : (own : Seated) (row : List Slot) (bytes : List (List ℕ)) (who : Identity) → own ≡ slot_of row who → row_of bytes ≡ row
+own_in : (own : Option Seat) (row : List Slot) (bytes : List (List ℕ)) (who : Identity) → own ≡ slot_of row who → row_of bytes ≡ row
     → own ≡ slot_of (row_of bytes) who
 own_in own row bytes who e r = e ∙ ap (λ (row : List Slot). slot_of row who) (sym r)
 
@@ -39,13 +41,22 @@ pub act-requires : goal.act-requires
 act-requires c =
     leaves_inside c.encode_row-bytes.result _ _ _ (in_bytes (goal.at.act-requires c).After-part-m)
 
+pub returns-in-Err : goal.returns-in-Err
+returns-in-Err c =
+    let a = c.args in
+    let s = state a.list.now a.store.now a.row a.tables.now in
+    let w = rw c.encode_row-bytes.ensures at c.act.ensures in
+    let m = rw c.encode_row-bytes.ensures at (in_bytes (goal.at.returns-in-Err c).After-part-m) in
+    let r = turned_away s a.who _ _ w.1 _ (sym c.in-Err.is ∙ w.0) c.refused.result _ c.refused.ensures in
+    (r.0, r.1 ∙ ap (move_left s a.who) m)
+
 pub returns : goal.returns
 returns c =
     let a = c.args in
-    let n = c.numbered.ensures in
-    let w = joined a.list.now a.store.now a.row a.tables.now a.who _ c.act.result c.numbered.result
-    (record { reply = n.0; place = n.1; slot = n.2 }) c.encode_row-bytes.result _ c.encode_row-bytes.ensures
-    c.act.ensures in
     let s = state a.list.now a.store.now a.row a.tables.now in
-    let m = rw c.encode_row-bytes.ensures at (in_bytes (goal.at.returns c).After-part-m) in
-    (w.0 ∙ ap (λ (m : Move). reply_to (move_told s a.who m)) m, w.1 ∙ ap (move_left s a.who) m)
+    let w = rw c.encode_row-bytes.ensures at c.act.ensures in
+    let d = sym c.in_default.is ∙ w.0 in
+    let m = rw c.encode_row-bytes.ensures at (in_bytes (goal.at.returns c).After-part-m) in (
+      replied (Ok Done) _ _ (told_yes _ _ (sym d)) c.from.ensures,
+      put_left s a.who _ _ _ w.1 d refl ∙ ap (move_left s a.who) m,
+    )

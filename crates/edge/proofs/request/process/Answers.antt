@@ -5,5 +5,5 @@ use Rattle.edge.proofs.request.process.Goals as goal
 
 pub returns : goal.returns
 returns c =
-    served _ _ _ _ _ _ _ _ _ (rw (c.link-link.ensures, c.request-rq.ensures) at c.process-c.ensures)
-    c.reply.ensures
+    served _ _ _ _ _ _ _ _ _ (rw (c.link-link.ensures, c.from-rq.ensures) at c.process-c.ensures)
+    c.from.ensures

@@ -3,4 +3,4 @@ use Rattle.edge.proofs.Telling.{delivered}
 use Rattle.edge.proofs.table.get_client_att_table.Goals as goal
 
 pub returns : goal.returns
-returns c = delivered _ _ _ _ _ c.get_client_att_table-a.ensures c.reply.ensures
+returns c = delivered _ _ _ _ _ c.get_client_att_table.ensures c.from.ensures

@@ -5,7 +5,7 @@ use Rattle.edge.proofs.table.set_client_att_table.Goals as goal
 
 pub returns : goal.returns
 returns c = (
-  replied c.set_client_att_table-a.result _ _ c.set_client_att_table-a.ensures.0
-      c.reply.ensures,
-  c.set_client_att_table-a.ensures.1,
+  replied c.set_client_att_table.result _ _ c.set_client_att_table.ensures.0
+      c.from.ensures,
+  c.set_client_att_table.ensures.1,
 )

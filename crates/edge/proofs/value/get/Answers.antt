@@ -4,4 +4,4 @@ use Rattle.edge.proofs.value.get.Goals as goal
 
 pub returns : goal.returns
 returns c =
-    delivered _ _ _ _ _ c.get-a.ensures c.reply.ensures
+    delivered _ _ _ _ _ c.get.ensures c.from.ensures

@@ -5,4 +5,4 @@ use Rattle.edge.proofs.value.set.Goals as goal
 
 pub returns : goal.returns
 returns c =
-    (replied c.set-a.result _ _ c.set-a.ensures.0 c.reply.ensures, c.set-a.ensures.1)
+    (replied c.set.result _ _ c.set.ensures.0 c.from.ensures, c.set.ensures.1)

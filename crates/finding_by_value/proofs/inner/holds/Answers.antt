@@ -12,8 +12,7 @@ pub slice_bounds-same-end : goal.slice_bounds-same-end
 slice_bounds-same-end c =
     omega (
       arith,
-      in_store c.args.list.now c.args.store.now _ _ c.requires.1 c.requires.0
-          c.decode-a.ensures c.if-a.false,
+      in_store c.args.v.list.now c.args.v.store.now _ _ c.args.v.right c.requires c.decode-a.ensures c.if-a.false,
     )
 
 pub returns : goal.returns

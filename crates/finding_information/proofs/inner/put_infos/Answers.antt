@@ -7,19 +7,10 @@ pub loop-i-init : goal.loop-i-init
 loop-i-init c =
     along_start _ _ _ _ _ _ c.requires.0 c.requires.1 c.requires.2
 
-pub info_row-c-requires : goal.info_row-c-requires
-info_row-c-requires c = omega arith
-
 pub returns-then-c-before : goal.returns-then-c-before
 returns-then-c-before c =
     along_stop _ _ _ _ _ _ _ _ _ c.loop-i.invariant c.loop-i-test.true _ _ _ c.info_row-c.ensures
     (λ want w. info_as _ want _ _ _ w) c.if-c-before.true
-
-pub overflow_add-i : goal.overflow_add-i
-overflow_add-i c = omega arith
-
-pub loop-i-smaller : goal.loop-i-smaller
-loop-i-smaller c = omega arith
 
 pub loop-i-preserved : goal.loop-i-preserved
 loop-i-preserved c =
@@ -28,4 +19,4 @@ loop-i-preserved c =
 
 pub returns : goal.returns
 returns c =
-    along_end _ _ _ _ _ _ _ _ _ c.loop-i.invariant c.loop-i-test.false (λ want r rs room w. info_skip _ want r _ room w)
+    along_end _ _ _ _ _ _ _ _ _ c.loop-i.invariant (omega (arith, c.loop-i-test.false)) (λ want r rs room w. info_skip _ want r _ room w)

@@ -1,6 +1,5 @@
 -- `finding_information::inner::put_infos` meets its contract. The loop, by the laws of `Along`. Assumes nothing.
 use mathlib.Core.Bool.{Bool}
-use Prim.Native.Nat.{◌-◌}
 use Rattle.attribute.specs.Record.{Entry}
 use Rattle.attribute_walk.specs.Walk.{any_record}
 use Rattle.finding_information.specs.Turns.{info_at}
@@ -8,7 +7,4 @@ use Rattle.model.proofs.Along.{Along}
 use Rattle.finding_information.proofs.inner.put_infos.Given as goal
 
 abbrev pub invariant-loop-i : goal.invariant-loop-i
-invariant-loop-i l = Along (λ (want : Entry → Bool). info_at want l.size) any_record l.list l.p l.initial.out l.initial.c l.out l.c l.i
-
-abbrev pub decreases-loop-i : goal.decreases-loop-i
-decreases-loop-i l = l.p.to - l.i
+invariant-loop-i l = Along (λ (want : Entry → Bool). info_at want l.size) any_record l.list l.fn.p l.initial.out l.initial.c l.out l.c l.i

@@ -3,8 +3,8 @@ use Rattle.std.proofs.Common.{arith, length-take}
 use Rattle.text.proofs.Turns.{hex_length}
 use Rattle.lines.proofs.say.pairs.Goals as goal
 
-pub hex-n-requires : goal.hex-n-requires
-hex-n-requires g c =
+pub hex-requires : goal.hex-requires
+hex-requires g c =
     omega (arith, hex_length c.args.d.now, c.requires)
 
 pub slice_bounds-say-end : goal.slice_bounds-say-end

@@ -9,12 +9,12 @@ use Rattle.peers.specs.declared.Slot.{Slot}
 use Rattle.peers.proofs.Rows.{length_row, row_set}
 use Rattle.peers.proofs.inner.put.Goals as goal
 
-pub returns-then-at-row : goal.returns-then-at-row
-returns-then-at-row c =
+pub returns-then-m-row : goal.returns-then-m-row
+returns-then-m-row c =
     let a = c.args in
-    row_set a.row.now a.m.place _ ∙ ap (λ (s : Slot). set (row_of a.row.now) a.m.place s) c.encode.ensures.1
+    row_set a.row.now a.m.seat.0 _ ∙ ap (λ (s : Slot). set (row_of a.row.now) a.m.seat.0 s) c.from.ensures.1
 
-pub returns-else-at-row : goal.returns-else-at-row
-returns-else-at-row c =
+pub returns-else-m-row : goal.returns-else-m-row
+returns-else-m-row c =
     let a = c.args in
-    sym (set_out (row_of a.row.now) a.m.place a.m.slot (omega (arith, length_row a.row.now, c.if-at-row.false)))
+    sym (set_out (row_of a.row.now) a.m.seat.0 a.m.slot (omega (arith, length_row a.row.now, c.if-m-row.false)))

@@ -1,8 +1,14 @@
 -- `peers::one::encode_row` meets its contract: each of the eight decodes to its slot. Assumes nothing.
 use mathlib.Core.Path.{◌≡◌, ◌∙◌}
+use mathlib.Core.List.{[]}
+use Prim.Native.Nat.{◌<◌}
+use native.Mathlib.Omega.{arith}
 use lib.ListN.{length}
+use lib.Seq.{ext_get_or}
 use borrow.Author.Rules.{rules}
-use Rattle.peers.proofs.Rows.{eight_slots, made}
+use Rattle.peers.specs.Bytes.{row_of}
+use Rattle.peers.specs.Slots.{no_slot}
+use Rattle.peers.proofs.Rows.{length_row, row_at}
 use Rattle.peers.proofs.one.encode_row.Goals as goal
 use Rattle.peers.proofs.one.encode_row.Goals.{Start}
 
@@ -12,6 +18,9 @@ eight c = search rules
 
 pub returns : goal.returns
 returns c =
-    made c.encode.ensures.1 c.encode-2.ensures.1 c.encode-3.ensures.1
-    c.encode-4.ensures.1 c.encode-5.ensures.1 c.encode-6.ensures.1
-    c.encode-7.ensures.1 c.encode-8.ensures.1 ∙ eight_slots c.args.row _ (eight (goal.at.returns c).Start)
+    let m = c.map.ensures.items in
+    let n = eight (goal.at.returns c).Start in
+    ext_get_or no_slot (row_of c.map.result) c.args.row (omega (arith, length_row c.map.result, m.long))
+    (λ i h.
+    let l : i < length c.map.result = omega (arith, length_row c.map.result) in
+    row_at c.map.result i l ∙ (m.at i no_slot [] (omega (arith, m.long))).2.met)

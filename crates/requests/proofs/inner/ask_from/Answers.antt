@@ -10,30 +10,28 @@ use mathlib.Core.Path.{ap}
 use native.Mathlib.Omega.{arith}
 use Rattle.requests.proofs.inner.ask_from.Goals as goal
 
-pub offset_bounds-tables-at : goal.offset_bounds-tables-at
-offset_bounds-tables-at c =
-    omega (arith, c.requires.0.own.inside _ c.in-At.is, c.requires.0.own.tables.eight)
+pub offset_bounds-tables-k : goal.offset_bounds-tables-k
+offset_bounds-tables-k c =
+    omega (arith, c.requires.0.own.inside _ c.in-Some.is, c.requires.0.own.tables.eight)
 
-pub bounds-tables-at : goal.bounds-tables-at
-bounds-tables-at c =
-    omega (arith, c.requires.0.own.inside _ c.in-At.is, c.requires.0.own.tables.eight)
+pub bounds-tables-k : goal.bounds-tables-k
+bounds-tables-k c =
+    omega (arith, c.requires.0.own.inside _ c.in-Some.is, c.requires.0.own.tables.eight)
 
-pub ask-requires : goal.ask-requires
-ask-requires c =
-    (own_table_lem _ _ _ _ c.requires.0 _ c.in-At.is, c.requires.1)
+pub invariant_of-own : goal.invariant_of-own
+invariant_of-own c = record { ready = own_table_lem _ _ _ _ c.requires.0 _ c.in-Some.is }
 
-pub ask-requires-in-Nothing : goal.ask-requires-in-Nothing
-ask-requires-in-Nothing c =
-    (empty_table _ _ _ _ c.requires.0, c.requires.1)
+pub invariant_of-empty : goal.invariant_of-empty
+invariant_of-empty c = record { ready = empty_table _ _ _ _ c.requires.0 }
 
-pub returns-in-At : goal.returns-in-At
-returns-in-At c =
+pub returns-in-Some : goal.returns-in-Some
+returns-in-Some c =
     let a = c.args in
     sent_as _ _ _ _ _ c.ask.ensures (ap (λ (t : List ℕ). ask_rsp (seen_all a.link a.list.now a.store.now t)
-    (length a.out.now) a.rq a.d.now) (table_there _ _ _ c.in-At.is))
+    (length a.out.now) a.rq a.d.now) (table_there _ _ _ c.in-Some.is))
 
-pub returns-in-Nothing : goal.returns-in-Nothing
-returns-in-Nothing c =
+pub returns-in-None : goal.returns-in-None
+returns-in-None c =
     let a = c.args in
-    sent_as _ _ _ _ _ c.ask-in-Nothing.ensures (ap (λ (t : List ℕ). ask_rsp (seen_all a.link a.list.now a.store.now t)
-    (length a.out.now) a.rq a.d.now) (table_none _ _ c.in-Nothing.is))
+    sent_as _ _ _ _ _ c.ask-in-None.ensures (ap (λ (t : List ℕ). ask_rsp (seen_all a.link a.list.now a.store.now t)
+    (length a.out.now) a.rq a.d.now) (table_none _ _ c.in-None.is))

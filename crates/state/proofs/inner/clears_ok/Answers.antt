@@ -1,4 +1,4 @@
-use mathlib.Core.Path.{◌≡◌, refl, sym, ap, ◌∙◌}
+use mathlib.Core.Path.{◌≡◌, sym, ap, ◌∙◌}
 use mathlib.Core.List.{[]}
 use Prim.Native.Nat.{◌<◌}
 use native.Mathlib.Omega.{arith}
@@ -19,50 +19,21 @@ tested : (c : After-clear_ok) →
 tested c =
     let here : c.loop-i.i < length c.args.row.now = omega (arith, c.requires.3) in
     ap (λ (x : Slot). clear_ok c.args.base c.args.end x (get_or c.args.tables.now c.loop-i.i []))
-    (row_at c.args.row.now c.loop-i.i here ∙ sym c.decode-s.ensures) ∙ sym c.clear_ok.ensures
-
-pub loop-i-init : goal.loop-i-init
-loop-i-init c = (omega arith, refl)
-
-pub offset_bounds-row-i : goal.offset_bounds-row-i
-offset_bounds-row-i c = omega arith
-
-pub bounds-row-i : goal.bounds-row-i
-bounds-row-i c = omega arith
-
-pub decode-s-requires : goal.decode-s-requires
-decode-s-requires c = omega arith
-
-pub offset_bounds-tables-i : goal.offset_bounds-tables-i
-offset_bounds-tables-i c = omega arith
-
-pub bounds-tables-i : goal.bounds-tables-i
-bounds-tables-i c = omega arith
-
-pub clear_ok-requires : goal.clear_ok-requires
-clear_ok-requires c = omega arith
+    (row_at c.args.row.now c.loop-i.i here ∙ sym c.from.ensures) ∙ sym c.clear_ok.ensures
 
 pub returns-then-not-clear_ok : goal.returns-then-not-clear_ok
 returns-then-not-clear_ok c =
-    bad_slot _ _ (row_of c.args.row.now) _ _ _ c.loop-i.invariant.1
+    bad_slot _ _ (row_of c.args.row.now) _ _ _ c.loop-i.invariant
     (omega (arith, length_row c.args.row.now, c.requires.3)) (omega arith)
     (tested (goal.at.returns-then-not-clear_ok c).After-clear_ok ∙ c.if-not-clear_ok.true)
 
-pub overflow_add-i : goal.overflow_add-i
-overflow_add-i c = omega arith
-
-pub loop-i-smaller : goal.loop-i-smaller
-loop-i-smaller c = omega arith
-
 pub loop-i-preserved : goal.loop-i-preserved
-loop-i-preserved c = (
-  omega arith,
-  next_slot _ _ (row_of c.args.row.now) _ _ _ c.loop-i.invariant.1
-      (omega (arith, length_row c.args.row.now, c.requires.3)) (omega arith)
-      (tested (goal.at.loop-i-preserved c).After-clear_ok ∙ c.if-not-clear_ok.false),
-)
+loop-i-preserved c =
+    next_slot _ _ (row_of c.args.row.now) _ _ _ c.loop-i.invariant
+    (omega (arith, length_row c.args.row.now, c.requires.3)) (omega arith)
+    (tested (goal.at.loop-i-preserved c).After-clear_ok ∙ c.if-not-clear_ok.false)
 
 pub returns : goal.returns
 returns c =
-    last_slot _ _ (row_of c.args.row.now) c.args.tables.now c.loop-i.i _ c.loop-i.invariant.1
-    (omega (arith, length_row c.args.row.now, c.requires.3)) (omega arith)
+    last_slot _ _ (row_of c.args.row.now) c.args.tables.now c.loop-i.i _ c.loop-i.invariant
+    (omega (arith, length_row c.args.row.now, c.requires.3, c.loop-i-test.false)) (omega (arith, c.loop-i-test.false))

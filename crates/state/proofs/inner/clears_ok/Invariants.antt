@@ -1,15 +1,10 @@
 -- `state::inner::clears_ok` meets its contract. The invariant is residual: the test of the slots that are left is the
 -- test of all. Assumes nothing.
 use mathlib.Core.Path.{◌≡◌}
-use Prim.Native.Nat.{◌≤◌, ◌-◌}
 use lib.ListN.{drop}
-use Rattle.wire.specs.Size.{slot_count}
 use Rattle.peers.specs.Bytes.{row_of}
 use Rattle.state.specs.Clear.{clears_ok}
 use Rattle.state.proofs.inner.clears_ok.Given as goal
 
 abbrev pub invariant-loop-i : goal.invariant-loop-i
-invariant-loop-i l = (l.i ≤ slot_count) × (clears_ok l.base l.end (drop l.i (row_of l.row)) (drop l.i l.tables) ≡ clears_ok l.base l.end (row_of l.row) l.tables)
-
-abbrev pub decreases-loop-i : goal.decreases-loop-i
-decreases-loop-i l = slot_count - l.i
+invariant-loop-i l = clears_ok l.base l.end (drop l.i (row_of l.row)) (drop l.i l.tables) ≡ clears_ok l.base l.end (row_of l.row) l.tables

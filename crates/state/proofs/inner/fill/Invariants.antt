@@ -1,12 +1,8 @@
--- `state::inner::fill` meets its contract. The invariant: i copies, then the rest as it was. Assumes nothing.
+-- `state::inner::fill` meets its contract. The invariant: so many copies, then the rest as it was. Assumes nothing.
 use mathlib.Core.List.{◌++◌}
 use mathlib.Core.Path.{◌≡◌}
-use Prim.Native.Nat.{◌-◌, ◌≤◌}
-use lib.ListN.{length, drop, replicate}
+use lib.ListN.{drop, replicate}
 use Rattle.state.proofs.inner.fill.Given as goal
 
-abbrev pub invariant-loop-i : goal.invariant-loop-i
-invariant-loop-i l = (l.i ≤ length l.initial.tables) × (length l.tables ≡ length l.initial.tables) × (l.tables ≡ replicate l.i l.t ++ drop l.i l.initial.tables)
-
-abbrev pub decreases-loop-i : goal.decreases-loop-i
-decreases-loop-i l = length l.initial.tables - l.i
+abbrev pub invariant-loop-x : goal.invariant-loop-x
+invariant-loop-x g l = l.xs ≡ replicate l.x-index l.v ++ drop l.x-index l.initial.xs

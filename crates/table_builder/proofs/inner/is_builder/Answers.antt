@@ -6,7 +6,7 @@ use mathlib.Core.Path.{◌≡◌, sym, ap, ◌∙◌}
 use native.Mathlib.Omega.{arith}
 use Rattle.table_view.specs.Rules.{accepts}
 use Rattle.wire.specs.Bytes.{zeros}
-use Rattle.table_builder.proofs.Laws.{no_table, by_zeros}
+use Rattle.table_builder.proofs.Laws.{by_zeros}
 use Rattle.table_view.proofs.Shape.{long, fits}
 use Rattle.wire.proofs.Sets.{tail}
 use Rattle.table_builder.proofs.inner.is_builder.Goals as goal
@@ -15,9 +15,6 @@ use Rattle.table_builder.proofs.inner.is_builder.Goals.{Else-not-is_table}
 ok : (c : Else-not-is_table) →
     accepts c.args.b.now ≡ true
 ok c = sym c.is_table.ensures ∙ c.if-not-is_table.false
-
-pub returns-then-not-is_table : goal.returns-then-not-is_table
-returns-then-not-is_table c = no_table _ (sym c.is_table.ensures ∙ c.if-not-is_table.true)
 
 pub values_base-from-requires : goal.values_base-from-requires
 values_base-from-requires c = long _ (ok (goal.at.values_base-from-requires c).Else-not-is_table)

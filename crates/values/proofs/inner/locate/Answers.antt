@@ -10,12 +10,9 @@ pub returns-in_default : goal.returns-in_default
 returns-in_default c = absent _ _ _ _ (sym c.find_listed.ensures ∙ c.in_default.is)
 
 pub locate_at-requires : goal.locate_at-requires
-locate_at-requires c = (
-  (placed (has_handle _) [] c.args.list.now 0 _
-      (sym c.find_listed.ensures ∙ c.in-At.is)).inside,
-  c.requires.1,
-)
+locate_at-requires c =
+    ((placed (has_handle _) [] c.args.list.now 0 _ (sym c.find_listed.ensures ∙ c.in-Some.is)).inside, c.requires.1)
 
 pub returns : goal.returns
 returns c =
-    c.locate_at.ensures ∙ listed _ _ _ _ _ (sym c.find_listed.ensures ∙ c.in-At.is)
+    c.locate_at.ensures ∙ listed _ _ _ _ _ (sym c.find_listed.ensures ∙ c.in-Some.is)

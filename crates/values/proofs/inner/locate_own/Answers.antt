@@ -14,15 +14,15 @@ returns-in_default c = none_own _ _ (sym c.find.ensures ∙ c.in_default.is)
 
 pub value_start-requires : goal.value_start-requires
 value_start-requires c =
-    let i = (placed _ _ _ (sym c.find.ensures ∙ c.in-At.is)).inside in
+    let i = (placed _ _ _ (sym c.find.ensures ∙ c.in-Some.is)).inside in
     omega (arith, fits _ c.requires)
 
 pub value_len-requires : goal.value_len-requires
 value_len-requires c =
-    let i = (placed _ _ _ (sym c.find.ensures ∙ c.in-At.is)).inside in
+    let i = (placed _ _ _ (sym c.find.ensures ∙ c.in-Some.is)).inside in
     let e = entry_at _ c.requires _ i in
     record { t_in_bounds = omega (arith, fits _ c.requires); p_in_bounds = omega (arith, fits _ c.requires) }
 
 pub returns : goal.returns
 returns c =
-    one_own _ _ _ _ _ (sym c.find.ensures ∙ c.in-At.is) c.value_start.ensures.0 c.value_len.ensures.0
+    one_own _ _ _ _ _ (sym c.find.ensures ∙ c.in-Some.is) c.value_start.ensures.0 c.value_len.ensures.0

@@ -3,10 +3,6 @@ use Rattle.values.proofs.Ways.{of_client, of_store}
 use mathlib.Core.Path.{◌∙◌}
 use Rattle.values.proofs.inner.locate_value.Goals as goal
 
-pub locate_own-requires : goal.locate_own-requires
-locate_own-requires c =
-    c.requires.1
-
 pub returns-then-a : goal.returns-then-a
 returns-then-a c =
     c.locate_own.ensures ∙ of_client _ c.decode-a.result c.if-a.true ∙ rw c.decode-a.ensures

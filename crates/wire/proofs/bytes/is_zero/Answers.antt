@@ -4,23 +4,12 @@ use Rattle.wire.specs.Test.{both}
 use Rattle.wire.proofs.Fold.{zeros_turn, zeros_end}
 use Rattle.wire.proofs.bytes.is_zero.Goals as goal
 
-pub loop-i-init : goal.loop-i-init
+pub loop-x-init : goal.loop-x-init
 unfolding both
-loop-i-init c = (omega arith, refl)
+loop-x-init c = refl
 
-pub bounds-s-i : goal.bounds-s-i
-bounds-s-i c = omega arith
-
-pub overflow_add-i : goal.overflow_add-i
-overflow_add-i c = omega arith
-
-pub loop-i-smaller : goal.loop-i-smaller
-loop-i-smaller c = omega arith
-
-pub loop-i-preserved : goal.loop-i-preserved
-loop-i-preserved c =
-    (omega arith, zeros_turn c.args.s.now c.loop-i.acc _ _ c.loop-i.invariant.1 c.loop-i-test.true)
+pub loop-x-preserved : goal.loop-x-preserved
+loop-x-preserved c = zeros_turn c.args.s.now c.loop-x.acc _ _ c.loop-x.invariant c.loop-x-test.true
 
 pub returns : goal.returns
-returns c =
-    zeros_end c.args.s.now c.loop-i.acc _ _ c.loop-i.invariant.1 c.loop-i-test.false
+returns c = zeros_end c.args.s.now c.loop-x.acc _ _ c.loop-x.invariant (omega (arith, c.loop-x-test.false))

@@ -1,9 +1,0 @@
--- `numbers::request::flags` meets its contract. A law of the test for each branch. Assumes nothing.
-use borrow.Author.Tests.{eq-eqb, ne_eqb}
-use Rattle.numbers.proofs.request.flags.Goals as goal
-
-pub returns-then-n-eq1 : goal.returns-then-n-eq1
-returns-then-n-eq1 c = rw (eq-eqb _ _ c.if-n-eq1.true)
-
-pub returns : goal.returns
-returns c = rw (ne_eqb _ _ c.if-n-eq1.false)
