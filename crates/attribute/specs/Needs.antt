@@ -16,10 +16,14 @@ use Rattle.attribute.specs.declared.Wish.TheVariants.{Read, Write}
 abbrev pub Access : Type 0
 Access = Result (Unit {0}) AttError
 
--- what it tells
+-- what is told by an answer that says why not by anything that has a code
+abbrev pub told_as : {C : Type 0} → (C → ℕ) → Result (Unit {0}) C → Told
+told_as code (Ok x) = done
+told_as code (Err c) = att (code c)
+
+-- what an access tells
 abbrev pub told_access : Access → Told
-told_access (Ok x) = done
-told_access (Err e) = att (code_of e)
+told_access a = told_as code_of a
 
 -- the highest need that a link meets: 1 any link, 2 encrypted, 3 authenticated, which is encrypted too; a link that is
 -- gone meets none
@@ -29,12 +33,18 @@ level_of Encrypted = 2
 level_of Authenticated = 3
 level_of Gone = 0
 
--- gone is told before any need; need 0 is never met, and has the error `never`; then 0x0F for need 2 and 0x05 for need 3
-unfoldable pub access_of : Link → AttError → ℕ → Access
-access_of link never need =
-    cond (eqb (level_of link) 0) (Err InvalidHandle)
+-- gone is told before any need; need 0 is never met, and has the code `never`; then 0x0F for need 2 and 0x05 for need
+-- 3. Each error is what `made` makes of it
+unfoldable pub access_as : {C : Type 0} → (AttError → C) → Link → C → ℕ → Result (Unit {0}) C
+access_as made link never need =
+    cond (eqb (level_of link) 0) (Err (made InvalidHandle))
     (cond (eqb need 0) (Err never)
-    (cond (leb need (level_of link)) (Ok tt) (cond (eqb need 2) (Err InsufficientEncryption) (Err InsufficientAuthentication))))
+    (cond (leb need (level_of link)) (Ok tt)
+    (cond (eqb need 2) (Err (made InsufficientEncryption)) (Err (made InsufficientAuthentication)))))
+
+-- the same with the errors as they are
+abbrev pub access_of : Link → AttError → ℕ → Access
+access_of link never need = access_as (λ e. e) link never need
 
 -- reading and writing
 abbrev pub may_read : Attribute → Link → Access
@@ -56,9 +66,9 @@ access_at wish list link (Some i) = may_do wish (attribute_of (get_or list i [])
 abbrev pub can_do : Wish → List (List ℕ) → Link → ℕ → Access
 can_do wish list link h = access_at wish list link (place_of list h)
 
--- what a call that asks for each of these tells
-abbrev pub access_told : Link → AttError → ℕ → Told
-access_told link never need = told_access (access_of link never need)
+-- what a call that asks for each of these tells; need 0 may have any code
+abbrev pub access_told : Link → ℕ → ℕ → Told
+access_told link never need = told_as (λ c. c) (access_as code_of link never need)
 
 abbrev pub can_do_told : Wish → List (List ℕ) → Link → ℕ → Told
 can_do_told wish list link h = told_access (can_do wish list link h)

@@ -1,9 +1,9 @@
 // What a link may do with a value.
 ghost use Rattle.std.specs.Prelude.{◌≡◌};
-ghost use Rattle.attribute.specs.Needs.{told_access, level_of, access_told, may_do, can_do_told};
+ghost use Rattle.attribute.specs.Needs.{told_access, told_as, level_of, access_as, access_told, may_do, can_do_told};
 
 use crate::{Attribute, Link, Wish, inner, lookup};
-use wire::att::AttError;
+use wire::att::{AttError, Code};
 use wire::sizes::Record;
 
 // The highest need that a link meets.
@@ -18,14 +18,15 @@ fn level(link: Link) -> u8
     }
 }
 
-// Whether a link meets a need; `never` is the error of need 0.
-#[tactic(auto, unfolding(crate::specs::Needs::access_of))]
-pub fn access(link: Link, never: AttError, need: u8) -> Result<(), AttError>
-    ensures { told_access result ≡ access_told link never need }
+// Whether a link meets a need; `never` is the error of need 0, by its name or any code.
+#[tactic(auto, unfolding(crate::specs::Needs::access_as))]
+pub fn access<C: Code>(link: Link, never: C, need: u8) -> Result<(), C>
+    ensures gives { result ≡ access_as C.made link never need }
+    ensures tells { told_as C.code result ≡ access_told link (C.code never) need }
 {
     let most = level(link);
     if most == 0 {
-        return Err(AttError::InvalidHandle);
+        return Err(C::of(AttError::InvalidHandle));
     }
     if need == 0 {
         return Err(never);
@@ -34,9 +35,9 @@ pub fn access(link: Link, never: AttError, need: u8) -> Result<(), AttError>
         return Ok(());
     }
     if need == 2 {
-        return Err(AttError::InsufficientEncryption);
+        return Err(C::of(AttError::InsufficientEncryption));
     }
-    Err(AttError::InsufficientAuthentication)
+    Err(C::of(AttError::InsufficientAuthentication))
 }
 
 // Whether a link may do with an entry what it wishes.

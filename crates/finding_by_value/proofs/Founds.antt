@@ -27,7 +27,7 @@ use Rattle.attribute_walk.proofs.Walks.{unwanted_before, picks_type}
 use Rattle.model.specs.Value.{shared_item}
 use Rattle.model.specs.Run.{stop, skip, emit, Rowed, Listed, run}
 use Rattle.model.specs.Rows.{holds, find_turn}
-use Rattle.model.specs.Answer.{Sent, error_rsp, found_rsp}
+use Rattle.model.specs.Answer.{Sent, error_bytes, error_rsp, found_rsp}
 use Rattle.model.proofs.Running.{run_from}
 use Rattle.model.proofs.Sending.{sent, sent_as}
 use Rattle.model.proofs.Writes.{row}
@@ -152,7 +152,7 @@ module _ (old o₁ o₂ : List ℕ) (c₀ c₁ c₂ : WriteCursor) (start : ℕ)
 
   -- no row was written: the error takes the opcode's place
   pub error_sent : c₂.len ≡ 1 → (o₃ : List ℕ) (n : ℕ) → Sent o₂ o₃ n (error_rsp 0x06 start AttributeNotFound) → Sent old o₃ n (found_rsp start (rows (length old - 1)))
-  unfolding found_rsp error_rsp
+  unfolding found_rsp error_bytes
   error_sent h o₃ n s =
       let q : rows (length old - 1) ≡ [] = no_rows (rows (length old - 1)) (omega (arith, size)) in
       let a : o₁ ≡ set old 0 0x07 = rw z at first.bytes in

@@ -18,7 +18,7 @@ use Rattle.model.specs.Value.{Contents, Bytes, Code, read_from}
 use Rattle.model.specs.View.{View, Seen, read_at, write_at}
 use Rattle.model.specs.Run.{Chunk, stop, skip, emit, run}
 use Rattle.model.specs.Rows.{by_type_form, by_group_form, pair_of, lead, extra_of, cut, entries_in, value_turn, row_turn, info_turn, holds, find_turn}
-use Rattle.model.specs.Answer.{error_rsp, value_rsp, done_rsp, in_range, is_bad_range, first_rsp, list_from, info_from, found_rsp, multiple_rsp, ask_rsp, prepare_access, execute_access, echo_rsp, change_told, request_told, find_rsp}
+use Rattle.model.specs.Answer.{error_bytes, error_rsp, value_rsp, done_rsp, in_range, is_bad_range, first_rsp, list_from, info_from, found_rsp, multiple_rsp, ask_rsp, prepare_access, execute_access, echo_rsp, change_told, request_told, find_rsp}
 use Rattle.model.specs.Told.{Fits}
 use Rattle.model.specs.declared.Form.{Form}
 use Rattle.model.specs.declared.Range.{Range}
@@ -99,7 +99,7 @@ module _ (room : ℕ) (big : 23 ≤ room) where
   Within rsp = length rsp ≤ room
 
   error_fits : (op h : ℕ) (e : AttError) → Within (error_rsp op h e)
-  unfolding error_rsp
+  unfolding error_bytes
   error_fits op h e = omega arith
 
   value_fits : (rsp op h : ℕ) (c : Contents) → Within (value_rsp rsp op h room c)

@@ -1,6 +1,6 @@
 -- The answers to requests (document 01, "Handlers"; Core Vol 3 Part F 3.4). Each but that of Find By Type Value is a
 -- function of the view, the request, and the buffer's length. Assumes nothing.
-use Rattle.std.specs.Prelude.{ℕ, ◌+◌, ◌-◌, ◌≤◌, ◌≡◌, Bool, true, false, cond, List, [], ◌∷◌, ◌++◌, ltb, eqb, length, take, Ok, Err}
+use Rattle.std.specs.Prelude.{ℕ, ◌+◌, ◌-◌, ◌≤◌, ◌≡◌, Bool, true, false, cond, List, [], ◌∷◌, ◌++◌, ltb, eqb, length, take, Result, Ok, Err}
 use Rattle.std.proofs.lemmas.List.Edits.{sets}
 use Rattle.wire.specs.Size.{value_bytes}
 use Rattle.wire.specs.Test.{both}
@@ -26,15 +26,22 @@ use Rattle.wire.specs.declared.att.AttError.{AttError}
 use Rattle.wire.specs.declared.att.AttError.TheVariants.{InvalidHandle, InvalidPdu, InvalidOffset, PrepareQueueFull, AttributeNotFound}
 
 -- an ATT error: 0x01, the request's opcode, the handle, the code
-unfoldable pub error_rsp : ℕ → ℕ → AttError → List ℕ
-error_rsp op h e = 0x01 ∷ op ∷ word_bytes h ++ (code_of e ∷ [])
+unfoldable pub error_bytes : ℕ → ℕ → ℕ → List ℕ
+error_bytes op h code = 0x01 ∷ op ∷ word_bytes h ++ (code ∷ [])
+
+-- the same for an error by its name
+abbrev pub error_rsp : ℕ → ℕ → AttError → List ℕ
+error_rsp op h e = error_bytes op h (code_of e)
 
 -- a value behind its opcode, cut to the room; or the error
 unfoldable pub value_rsp : ℕ → ℕ → ℕ → ℕ → Contents → List ℕ
 value_rsp rsp op h room (Bytes v) = rsp ∷ take (room - 1) v
 value_rsp rsp op h room (Code c) = error_rsp op h c
 
--- what is done is answered by ok, what is not by the error
+-- what is done is answered by ok, what is not by the error; `code` is the code of what says why not
+abbrev pub done_as : {C : Type 0} → (C → ℕ) → List ℕ → ℕ → ℕ → Result (Unit {0}) C → List ℕ
+done_as code ok op h a = if_met a ok (λ c. error_bytes op h (code c))
+
 abbrev pub done_rsp : List ℕ → ℕ → ℕ → Access → List ℕ
 done_rsp ok op h a = if_met a ok (error_rsp op h)
 

@@ -1,6 +1,6 @@
 -- What one link can see of the hub: the list in which each value that it may not read is replaced by the code of the
 -- refusal, and its own prepared write. Answers know of no other permission test. Assumes nothing.
-use Rattle.std.specs.Prelude.{ℕ, Bool, List, [], ◌∷◌, map, eqb, take, get_or, Option, Some, None, Ok, Err}
+use Rattle.std.specs.Prelude.{ℕ, Bool, List, [], ◌∷◌, map, eqb, take, get_or, Option, Some, None, Result, Ok, Err}
 use Rattle.wire.specs.First.{first}
 use Rattle.attribute.specs.Record.{Entry, entry_of, attribute_of}
 use Rattle.attribute.specs.Needs.{may_read, may_write, Access}
@@ -11,7 +11,6 @@ use Rattle.peers.specs.declared.Slot.{Slot}
 use Rattle.state.specs.declared.Prepared.{Prepared}
 use Rattle.model.specs.Value.{Contents, Code, read_of, write_of}
 use Rattle.peers.specs.declared.Seat.{Seat}
-use Rattle.wire.specs.declared.att.AttError.{AttError}
 use Rattle.wire.specs.declared.att.AttError.TheVariants.{AttributeNotFound}
 
 -- an attribute as a link sees it: the value or a code, and what a write of so many bytes at an offset gets
@@ -30,8 +29,8 @@ pub record View : Type 0 where
   pub attrs : List Seen
   pub pending : Pending
 
--- what stands behind a permission test
-abbrev pub if_met : {A : Type 0} → Access → A → (AttError → A) → A
+-- what stands behind a permission test, which says why not by an error or a code
+abbrev pub if_met : {A C : Type 0} → Result (Unit {0}) C → A → (C → A) → A
 if_met (Ok x) a f = a
 if_met (Err e) a f = f e
 

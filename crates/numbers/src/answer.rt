@@ -1,9 +1,11 @@
 // Answers as numbers.
 ghost use Rattle.std.specs.Prelude.{◌≡◌};
-ghost use Rattle.numbers.specs.Reply.{reply_of, error_reply};
+ghost use Rattle.table_view.specs.Told.{att};
+ghost use Rattle.numbers.specs.Reply.{reply_to, reply_of, error_reply};
 
 use crate::Reply;
 use model::{Answer, CallError};
+use wire::att::Code;
 
 // Refused, by a number.
 pub fn refused(n: u8) -> Reply
@@ -12,6 +14,17 @@ pub fn refused(n: u8) -> Reply
     Reply {
         status: 4,
         code: n,
+        len: 0,
+    }
+}
+
+// An ATT error, by its name or any code.
+pub fn att<C: Code>(code: C) -> Reply
+    ensures { result ≡ reply_to (att (C.code code)) }
+{
+    Reply {
+        status: 3,
+        code: code.to_byte(),
         len: 0,
     }
 }
@@ -28,11 +41,7 @@ impl From<CallError> for Reply {
             CallError::NoSlot => refused(7),
             CallError::NoHandle => refused(8),
             CallError::WrongLength => refused(9),
-            CallError::Att(code) => Reply {
-                status: 3,
-                code: u8::from(code),
-                len: 0,
-            },
+            CallError::Att(code) => att(code),
         }
     }
 }

@@ -21,14 +21,14 @@ use Rattle.client_att_table.specs.Write.{plan_at, with_len, laid, dropped, store
 use Rattle.table_builder.specs.Push.{builder, last_key, entry_fits, value_size, flagged, push_plan, with_entry}
 use Rattle.attribute.specs.Record.{attribute_of, uuid_of, with_length, entry_of}
 use Rattle.attribute.specs.Rules.{fields_ok, range_ok, entry_ok, end_after, entries_ok, list_ok}
-use Rattle.attribute.specs.Needs.{access_of}
+use Rattle.attribute.specs.Needs.{access_as}
 use Rattle.peers.specs.Identity.{same_id, is_empty, is_bad}
 use Rattle.peers.specs.Slots.{matches, wanted, seated_at, connecting, no_slot}
 use Rattle.state.specs.Fresh.{clients_of, fresh_table, space_of, entries_size}
 use Rattle.state.specs.Valid.{laid_out, slot_ok, slots_ok, valid, record_ok, valid_with}
 use Rattle.model.specs.Value.{shared_item, at_value, read_of, write_rule, write_of}
 use Rattle.model.specs.View.{seen_by, table_at, read_at, write_at}
-use Rattle.model.specs.Answer.{error_rsp, value_rsp, ask_rsp, size_rule, prepare_rule, is_due, execute_access, change_told, request_told}
+use Rattle.model.specs.Answer.{error_bytes, value_rsp, ask_rsp, size_rule, prepare_rule, is_due, execute_access, change_told, request_told}
 use Rattle.model.specs.Change.{length_put, shared_list, shared_store, own_tables, put_at, state_after, state_by, longer, record_after, data_after, record_by, data_by}
 use Rattle.admission.specs.Admission.{admission_by, is_bad_buffer}
 use Rattle.secrecy.specs.Hub.{Hub, told_by, step_by}
@@ -79,7 +79,7 @@ module _ (need x : ℕ) where
 
 -- agreed
 agreed : Agree ada (ever_reaches ada calls) (hub_with 3 0) (hub_with 3 1)
-unfolding hub_with state_with list_with store_with record_with known_of holder_of entry_of attribute_of uuid_of word ever_reaches calls is_request access_of same_id both alike matches shared_item table_with items_from item_at next_at head_at len_at value_at
+unfolding hub_with state_with list_with store_with record_with known_of holder_of entry_of attribute_of uuid_of word ever_reaches calls is_request access_as same_id both alike matches shared_item table_with items_from item_at next_at head_at len_at value_at
 agreed = record { state = record { list = refl; row = refl; shared = shared; kept = kept }; pending = λ i. refl }
   where
     shared : (i : ℕ) → i < 3 → (attribute_at (state_with 3 0) i).client ≡ false → ever_reaches ada calls (attribute_at (state_with 3 0) i).reads ≡ true
@@ -116,7 +116,7 @@ last_byte (att c ∷ l) = 0
 
 -- what she hears computes
 hears : (heard ada (hub_with 3 0) calls ≡ answers) × (last_byte (heard ada (hub_with 1 0) calls) ≡ 0x30) × (last_byte (heard ada (hub_with 1 1) calls) ≡ 0x31)
-unfolding answers last_byte heard told_by step_by state_by state_after put_at own_tables record_by record_after data_by data_after longer prepare_rule size_rule is_due execute_access change_told error_rsp write_at write_of write_rule after_write plan_at stored dropped laid with_len place_from index_place place_in wanted seated_at matches table_at items_from item_at value_at length_put shared_list shared_store with_length uuid_of connecting calls is_request is_compared same_id is_bad is_empty zeros alike both hub_with state_with list_with store_with record_with table_with admission_by is_bad_buffer valid_with record_ok valid after_all word next_at head_at len_at index_entry_ok index_ok value_ok values_ok accepts builder last_key entry_fits value_size flagged push_plan with_entry attribute_of fields_ok range_ok entry_ok end_after entries_ok list_ok clients_of fresh_table space_of entries_size laid_out slot_ok slots_ok request_told ask_rsp value_rsp read_at first seen_by entry_of access_of read_of at_value shared_item
+unfolding answers last_byte heard told_by step_by state_by state_after put_at own_tables record_by record_after data_by data_after longer prepare_rule size_rule is_due execute_access change_told error_bytes write_at write_of write_rule after_write plan_at stored dropped laid with_len place_from index_place place_in wanted seated_at matches table_at items_from item_at value_at length_put shared_list shared_store with_length uuid_of connecting calls is_request is_compared same_id is_bad is_empty zeros alike both hub_with state_with list_with store_with record_with table_with admission_by is_bad_buffer valid_with record_ok valid after_all word next_at head_at len_at index_entry_ok index_ok value_ok values_ok accepts builder last_key entry_fits value_size flagged push_plan with_entry attribute_of fields_ok range_ok entry_ok end_after entries_ok list_ok clients_of fresh_table space_of entries_size laid_out slot_ok slots_ok request_told ask_rsp value_rsp read_at first seen_by entry_of access_as read_of at_value shared_item
 hears = (refl, refl, refl)
 
 not_same : heard ada (hub_with 1 0) calls ≡ heard ada (hub_with 1 1) calls → ⊥

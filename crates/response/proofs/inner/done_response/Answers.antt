@@ -5,11 +5,11 @@ use Rattle.response.proofs.Errors.{one_byte}
 use Rattle.response.proofs.inner.done_response.Goals as goal
 
 pub returns-in-Ok : goal.returns-in-Ok
-returns-in-Ok c =
+returns-in-Ok g c =
     sent_as _ _ _ _ _ (sent _ _ _ _ _ c.new.ensures.0
     (one_byte _ _ _ _ _ c.new.ensures.0 (omega (arith, c.requires)) c.byte.ensures.0 c.byte.ensures.1))
     (rw c.in-Ok.is)
 
 pub returns-in-Err : goal.returns-in-Err
-returns-in-Err c =
+returns-in-Err g c =
     sent_as _ _ _ _ _ c.error_response.ensures (rw c.in-Err.is)
