@@ -36,8 +36,8 @@ fn same_part<F: Fn(usize) -> u8 + Copy>(tables: &[Table], from: usize, to: usize
     acc == 0
 }
 
-// The same. A part of 16 bytes or more is tested in two that overlap, 16 bytes and then as many as make whole turns of
-// the loop: what would be left over costs more than it holds.
+// The same. A part of 16 bytes or more is tested in two that overlap, the last 16 bytes and then as many from its start
+// as make whole turns of the loop: what would be left over costs more than it holds.
 fn same<F: Fn(usize) -> u8 + Copy>(tables: &[Table], from: usize, to: usize, byte: F) -> bool
     requires { (length tables.now ≡ slot_count) × (from ≤ to) × (to ≤ table_bytes) × Answers (F.pre byte) }
     ensures all { (f : List ℕ) → Gives (F.post byte) f → result ≡ every (agrees f (to - from) from) tables.now }
@@ -47,7 +47,7 @@ fn same<F: Fn(usize) -> u8 + Copy>(tables: &[Table], from: usize, to: usize, byt
     if n < 16 {
         return same_part(tables, from, to, byte);
     }
-    same_part(tables, from, from + 16, byte) && same_part(tables, from + n % 16, to, byte)
+    same_part(tables, to - 16, to, byte) && same_part(tables, from, to - n % 16, byte)
 }
 
 // Whether every table has zeros from a place on.

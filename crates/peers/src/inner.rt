@@ -2,15 +2,16 @@
 ghost use Rattle.std.specs.Prelude.{◌≡◌, true, ◌<◌, length};
 ghost use Rattle.wire.specs.Size.{slot_count};
 ghost use Rattle.peers.specs.Bytes.{row_of};
-ghost use Rattle.peers.specs.Slots.{walk, Inside, joined, parted, row_moved, tables_moved, Tables};
+ghost use Rattle.peers.specs.Slots.{walk, sought_seat, slot_sought, Inside, joined, parted, row_moved, tables_moved, Tables};
 
 use crate::one::AsSlot;
 use crate::{Identity, Move, Seat, Slot, Want, one};
 use wire::sizes::{SlotBytes, Table};
 
-// The first slot that is wanted, of a row that is lent in slots or in their bytes.
+// The first slot that is wanted, of a row that is lent in slots or in their bytes, and what it tells.
 pub fn first<S: AsSlot>(row: &[S], who: Identity, want: Want) -> Option<Seat>
-    ensures { result ≡ walk want (S.slots row.now) who }
+    ensures found { result ≡ walk want (S.slots row.now) who }
+    ensures told { sought_seat result ≡ slot_sought want (S.slots row.now) who }
 {
     for (i, e) in row.iter().enumerate() {
         if one::is_wanted(e.as_slot(), who, want) {

@@ -1,9 +1,7 @@
--- `peers::who::same` meets its contract: equal addresses are alike. Assumes nothing.
-use Rattle.wire.specs.Test.{both}
-use Rattle.wire.proofs.Fold.{alike_points}
-use Rattle.peers.specs.Identity.{same_id}
+-- `peers::who::same` meets its contract: the numbers are equal exactly where the identities are. Assumes nothing.
+use Rattle.peers.proofs.Numbers.{by_number_lem}
 use Rattle.peers.proofs.who.same.Goals as goal
 
 pub returns : goal.returns
-unfolding same_id both
-returns c = simp alike_points at c.eq.ensures
+returns c =
+    rw (c.number.ensures.0, c.number-2.ensures.0) (by_number_lem _ _ c.number.ensures.1 c.number-2.ensures.1)
