@@ -63,3 +63,10 @@ module _ (bs : List ℕ) (k n : ℕ) (var : Bool) where
       let h3 = passed (leb (end_of bs + 4 + value_size n var) table_bytes) _ NoRoom h2.1 in
       let f = both_r _ _ h2.0 in
       record { ok = h1.0; key = leb-true _ _ (both_l _ _ f); above = ltb-true _ _ (both_r _ _ f); room = leb-true _ _ h3.0 }
+
+  -- so it has room, and its key no flag
+  pub added_fits : push_plan bs k n var ≡ Ok tt → end_of bs + 4 + value_size n var ≤ table_bytes
+  added_fits h = (adds h).room
+
+  pub added_key : push_plan bs k n var ≡ Ok tt → k < 32768
+  added_key h = let l = (adds h).key in omega arith

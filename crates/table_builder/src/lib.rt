@@ -28,6 +28,7 @@ pub fn new() -> Table
 }
 
 // One entry more, for a value of n bytes, or of up to n. An error leaves every byte.
+#[tactic(auto, using(crate::proofs::Laws::added_fits, crate::proofs::Laws::added_key))]
 pub fn push(b: &mut Table, key: Key, n: u16, variable: bool) -> Result<(), PushError>
     ensures { (told_pushed result ≡ push_told b.old key.0 n variable) × (b.new ≡ after_push b.old key.0 n variable) }
 {

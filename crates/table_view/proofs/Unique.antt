@@ -6,7 +6,7 @@ use mathlib.Core.List.{List}
 use Prim.Native.Nat.{ℕ}
 use Rattle.wire.proofs.Codes.{error_of, error_code}
 use Rattle.table_view.specs.Told.{Told, done, none, value, refused, att}
-use Rattle.table_view.specs.Read.{told_done, told_write, not_a_table, part, told_got, told_raw, read_of, read_told, got_of, get_told, raw_of, raw_told}
+use Rattle.table_view.specs.Read.{told_done, told_write, not_a_table, part, told_got, told_raw, read_told, got_of, get_told, raw_of, raw_told}
 use Rattle.table_view.specs.declared.Span.{Span}
 use Rattle.table_view.specs.declared.NotATable.{NotATable}
 use Rattle.table_view.specs.declared.WriteError.{WriteError}
@@ -39,10 +39,10 @@ write_read (Err (error.Att e)) = ap (λ x. Err (error.Att x)) (error_code e)
 -- two answers that tell the same are the same, and with them the bytes that a call leaves, where its promise says which
 -- they are
 module _ {R : Type 0} (tell : R → Told) (of : Told → R) (read : (r : R) → of (tell r) ≡ r) where
-  one_told : (t : Told) (r r' : R) → tell r ≡ t → tell r' ≡ t → r ≡ r'
+  pub one_told : (t : Told) (r r' : R) → tell r ≡ t → tell r' ≡ t → r ≡ r'
   one_told t r r' p q = sym (read r) ∙ ap of (p ∙ sym q) ∙ read r'
 
-  one_left : (t : Told) (left : List ℕ) (r r' : R) (new new' : List ℕ) → (tell r ≡ t) × (new ≡ left) → (tell r' ≡ t) × (new' ≡ left) → (r ≡ r') × (new ≡ new')
+  pub one_left : (t : Told) (left : List ℕ) (r r' : R) (new new' : List ℕ) → (tell r ≡ t) × (new ≡ left) → (tell r' ≡ t) × (new' ≡ left) → (r ≡ r') × (new ≡ new')
   one_left t left r r' new new' x y = (one_told t r r' x.0 y.0, x.1 ∙ sym y.1)
 
 pub done_left : (t : Told) (left : List ℕ) (r r' : Result (Unit {0}) NotATable) (new new' : List ℕ) → (told_done r ≡ t) × (new ≡ left)
@@ -54,8 +54,8 @@ pub write_left : (t : Told) (left : List ℕ) (r r' : Result (Unit {0}) WriteErr
 write_left = one_left told_write write_of write_read
 
 -- `try_from_raw`
-pub one_read : (bs : List ℕ) (r r' : Result (Unit {0}) NotATable) → (r ≡ read_of bs) × (told_done r ≡ read_told bs) → (r' ≡ read_of bs) × (told_done r' ≡ read_told bs) → r ≡ r'
-one_read bs r r' x y = x.0 ∙ sym y.0
+pub one_read : (bs : List ℕ) (r r' : Result (Unit {0}) NotATable) → told_done r ≡ read_told bs → told_done r' ≡ read_told bs → r ≡ r'
+one_read bs = one_told told_done done_of done_read (read_told bs)
 
 -- `get`: the span too, and not only the bytes that it names
 pub one_got : (bs : List ℕ) (k : ℕ) (r r' : Result (Option Span) NotATable) → (r ≡ got_of bs k) × (told_got bs r ≡ get_told bs k) → (r' ≡ got_of bs k) × (told_got bs r' ≡ get_told bs k) → r ≡ r'
