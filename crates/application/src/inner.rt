@@ -11,9 +11,8 @@ ghost use Rattle.state.specs.Lent.{held};
 ghost use Rattle.model.specs.View.{table_at};
 ghost use Rattle.model.specs.Told.{told_answer, Answered};
 ghost use Rattle.storing.specs.Ready.{SlotReady, ReadyToStore};
-ghost use Rattle.application.specs.Calls.{bit_of, is_wrong_length, fetch_told, store_told, store_left, is_subscribed, table_told, restore_told, restored};
+ghost use Rattle.application.specs.Calls.{is_wrong_length, fetch_told, store_told, store_left, is_subscribed, table_told, restore_told, restored};
 
-use crate::Bell;
 use model::{Answer, CallError};
 use peers::Seat;
 use state::Lent;
@@ -72,16 +71,6 @@ pub fn set(
     Ok(Answer::Done)
 }
 
-// The bit that a subscription sets: bit 0 or bit 1.
-fn bit(bell: Bell) -> u8
-    ensures { (result ≡ bit_of bell) × (0 < result) }
-{
-    match bell {
-        Bell::Notify => 1,
-        Bell::Indicate => 2,
-    }
-}
-
 // Whether a table's value under a handle has two bytes, and the bit in the first.
 fn has_bit(table: &[u8], handle: u16, bit: u8) -> bool
     requires { (accepts table.now ≡ true) × (0 < bit) }
@@ -94,15 +83,15 @@ fn has_bit(table: &[u8], handle: u16, bit: u8) -> bool
     v.len() == 2 && v[0] / bit % 2 == 1
 }
 
-// Whether a peer has subscribed to a value.
-pub fn is_subscribed(tables: &[Table], slot: Option<Seat>, handle: u16, bell: Bell) -> bool
-    requires { SlotReady tables.now slot }
-    ensures { result ≡ is_subscribed (table_at tables.now slot) handle (bit_of bell) }
+// Whether a peer has subscribed to a value, by the bit of a `Bell`.
+pub fn is_subscribed(tables: &[Table], slot: Option<Seat>, handle: u16, bit: u8) -> bool
+    requires { SlotReady tables.now slot × (0 < bit) }
+    ensures { result ≡ is_subscribed (table_at tables.now slot) handle bit }
 {
     let Some(k) = slot else {
         return false;
     };
-    has_bit(&tables[k.0], handle, bit(bell))
+    has_bit(&tables[k.0], handle, bit)
 }
 
 // Copies the peer's table out.

@@ -2,6 +2,9 @@
 // whole table.
 #![tactic(auto)]
 
+ghost use Rattle.std.specs.Prelude.{◌≡◌, ◌<◌};
+ghost use Rattle.application.specs.Calls.{bit_of};
+
 pub mod inner;
 
 // What a peer subscribes to: notifications, or indications.
@@ -9,4 +12,16 @@ pub mod inner;
 pub enum Bell {
     Notify,
     Indicate,
+}
+
+impl Bell {
+    // The bit that a subscription sets: bit 0 or bit 1.
+    pub fn bit(self) -> u8
+        ensures { (result ≡ bit_of self) × (0 < result) }
+    {
+        match self {
+            Bell::Notify => 1,
+            Bell::Indicate => 2,
+        }
+    }
 }

@@ -1,14 +1,18 @@
 -- Connecting and leaving: what the walks found is the move of the definitions, and a row with the move's slot put is
 -- the state after the call. Assumes nothing.
-use Rattle.std.specs.Prelude.{Option, Some, None, Ok, Err}
-use mathlib.Core.Path.{◌≡◌, sym, ap, subst, ◌∙◌}
+use Rattle.std.specs.Prelude.{Option, Some, None, Result, Ok, Err}
+use mathlib.Core.Path.{◌≡◌, refl, sym, ap, subst, ◌∙◌}
 use mathlib.Core.Bool.{Bool, true}
-use mathlib.Core.List.{List}
+use mathlib.Core.List.{List, []}
 use Prim.Native.Nat.{ℕ, ◌<◌}
 use native.Mathlib.Omega.{arith}
 use lib.ListN.{length}
-use Rattle.table_view.specs.Told.{done, refused}
+use Rattle.table_view.specs.Told.{Told, done, refused}
+use Rattle.model.specs.Told.{told_answer}
+use Rattle.model.specs.declared.Answer.{Answer}
+use Rattle.model.specs.declared.Answer.TheVariants.{Done}
 use Rattle.model.specs.declared.CallError.{CallError}
+use Rattle.model.proofs.Telling.{one_answer}
 use Rattle.peers.specs.Bytes.{row_of}
 use Rattle.peers.specs.Slots.{walk, slot_of, Inside, joined, connecting, parted, leaving, row_moved}
 use Rattle.peers.specs.declared.Identity.{Identity}
@@ -19,9 +23,9 @@ use Rattle.peers.proofs.Laws.{slot_inside}
 use Rattle.peers.proofs.Moves.{InRow, join_in_row, leave_in_row}
 use Rattle.peers.proofs.Rows.{length_row}
 use Rattle.state.specs.State.{State, state, after_move}
-use Rattle.admission.specs.Admission.{admission}
-use Rattle.admission.proofs.Admitting.{told_yes, left_no, left_yes}
-use Rattle.attribute_server.specs.Connection.{if_moved, connect_told, move_left}
+use Rattle.admission.specs.Admission.{Admission, admission, told_if}
+use Rattle.admission.proofs.Admitting.{left_no, left_yes}
+use Rattle.attribute_server.specs.Connection.{if_moved, moved_by, connect_told, disconnect_told, move_left}
 use Rattle.peers.specs.declared.Seat.{Seat}
 
 -- what the walks found
@@ -56,10 +60,26 @@ module _ (es : List (List ℕ)) (who : Identity) (m : Option Move) where
       → (k : Move) → m ≡ Some k → k.clears ≡ true → k.seat.0 < length es
   leaves_inside bonded e k = inside k (rw e (leave_in_row (row_of es) who bonded))
 
--- what a peer that is let in is told: by the move x that the walks found
-pub told_moved : (s : State) (who : Identity) (m x : Option Move) → Ok tt ≡ admission s who → m ≡ connecting s.row who → m ≡ x
-    → if_moved x done (refused 7) ≡ connect_told s who
-told_moved s who m x d e f = ap (λ (m : Option Move). if_moved m done (refused 7)) (sym f ∙ e) ∙ told_yes _ _ (sym d)
+-- what is told by the move that the walks found: refusal 7 where a peer that connects has none, done where one leaves
+module _ (s : State) (who : Identity) (m : Option Move) where
+  pub told_joined : m ≡ connecting s.row who → told_if (admission s who) (if_moved m done (refused 7)) ≡ connect_told s who
+  told_joined e = ap (λ (m : Option Move). told_if (admission s who) (if_moved m done (refused 7))) e
+
+  done_anyway : (m : Option Move) → if_moved m done done ≡ done
+  done_anyway (Some k) = refl
+  done_anyway None = refl
+
+  pub told_parted : (bonded : Bool) → told_if (admission s who) (if_moved m done done) ≡ disconnect_told s who bonded
+  told_parted bonded = ap (told_if (admission s who)) (done_anyway m)
+
+-- of a peer that is let in, the move that an answer leaves to be put is the move
+put_by_answer : (row : List Slot) (r : Result Answer CallError) (m : Option Move) (stayed : Told) → told_answer [] r ≡ if_moved m done stayed
+    → row_moved row (moved_by r m) ≡ row_moved row m
+put_by_answer row (Ok a) m stayed q = refl
+put_by_answer row (Err e) None stayed q = refl
+put_by_answer row (Err e) (Some k) stayed q =
+    let z : ◌≡◌ {A = Result Answer CallError} (Err e) (Ok Done) = one_answer [] (Err e) (Ok Done) q in
+    absurd (cc)
 
 -- the state after a move, by what is done to the row and to the tables
 module _ (s : State) (who : Identity) (m : Option Move) (row : List Slot) (ts : List (List ℕ)) where
@@ -81,3 +101,15 @@ module _ (s : State) (who : Identity) (m : Option Move) (row : List Slot) (ts : 
     -- of another the row stays
     pub stay_left : (e : CallError) → Err e ≡ admission s who → row ≡ s.row → Left
     stay_left e d same = put_by s (left_no _ _ _ _ (sym d)) (with_row s same)
+
+    -- by the answer: the move that it leaves is put
+    module _ (r : Result Answer CallError) (stayed : Told) (q : told_answer [] r ≡ told_if (admission s who) (if_moved m done stayed)) where
+      pub answer_left : (r' : Result Answer CallError) → r ≡ r' → row ≡ row_moved s.row (moved_by r' m) → Left
+      answer_left r' is put = by (admission s who) refl q
+        where
+          by_move : row ≡ row_moved s.row (moved_by r m)
+          by_move = put ∙ ap (λ (r : Result Answer CallError). row_moved s.row (moved_by r m)) (sym is)
+
+          by : (d : Admission) → admission s who ≡ d → told_answer [] r ≡ told_if d (if_moved m done stayed) → Left
+          by (Ok tt) e q = put_left (sym e) (by_move ∙ put_by_answer s.row r m stayed q)
+          by (Err x) e q = stay_left x (sym e) (by_move ∙ ap (λ (r : Result Answer CallError). row_moved s.row (moved_by r m)) (one_answer [] r (Err x) q))

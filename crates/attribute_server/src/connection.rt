@@ -25,12 +25,11 @@ pub fn connect(
     let usable = first(row, who, Want::Usable);
     let free = first(row, who, Want::Free);
     let m = peers::inner::join(usable, free, who);
-    inner::act(list, store, row, tables, who, m)?;
-    let Some(m) = m else {
-        return Err(CallError::NoSlot);
-    };
-    peers::inner::put(row, m);
-    Ok(Answer::Done)
+    let a = inner::act(list, store, row, tables, who, m, Err(CallError::NoSlot))?;
+    if let Some(m) = m {
+        peers::inner::put(row, m);
+    }
+    Ok(a)
 }
 
 // Disconnects a peer, which keeps its slot where it is bonded.
@@ -48,9 +47,9 @@ pub fn disconnect(
 {
     let own = first(row, who, Want::Own);
     let m = peers::inner::part(row, own, bonded);
-    inner::act(list, store, row, tables, who, m)?;
+    let a = inner::act(list, store, row, tables, who, m, Ok(Answer::Done))?;
     if let Some(m) = m {
         peers::inner::put(row, m);
     }
-    Ok(Answer::Done)
+    Ok(a)
 }

@@ -18,7 +18,7 @@ pub fn should(hub: Lent, who: Identity, handle: u16, bell: Bell) -> Result<Answe
 {
     admit(hub, who)?;
     let slot = peers::inner::first(hub.row, who, Want::Own);
-    if application::inner::is_subscribed(hub.tables, slot, handle, bell) {
+    if application::inner::is_subscribed(hub.tables, slot, handle, bell.bit()) {
         return Ok(Answer::Done);
     }
     Ok(Answer::Nothing)

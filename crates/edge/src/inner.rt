@@ -4,8 +4,8 @@ ghost use Rattle.std.specs.Prelude.{◌≡◌};
 ghost use Rattle.peers.specs.Slots.{walk, slot_of, row_moved};
 ghost use Rattle.peers.specs.declared.Want.TheVariants.{Usable, Free};
 ghost use Rattle.state.specs.State.{state};
-ghost use Rattle.attribute_server.specs.Connection.{connect_told, connect_left, disconnect_told, disconnect_left};
-ghost use Rattle.numbers.specs.Reply.{reply_to, error_reply};
+ghost use Rattle.attribute_server.specs.Connection.{moved_by, connect_told, connect_left, disconnect_told, disconnect_left};
+ghost use Rattle.numbers.specs.Reply.{reply_to, reply_of};
 ghost use Rattle.numbers.specs.Request.{is_set};
 
 use attribute_server::inner::act;
@@ -21,13 +21,17 @@ pub struct Joined {
     pub m: Option<Move>,
 }
 
-// A call that is refused, and moves nothing.
-fn refused(e: CallError) -> Joined
-    ensures { (result.reply ≡ error_reply e) × (result.m ≡ None) }
+// What `act` answered as a reply, with the move where that is no error.
+fn numbered(a: Result<Answer, CallError>, m: Option<Move>) -> Joined
+    ensures { (result.reply ≡ reply_of a) × (result.m ≡ moved_by a m) }
 {
+    let m = match a {
+        Ok(_) => m,
+        Err(_) => None,
+    };
     Joined {
-        reply: Reply::from(e),
-        m: None,
+        reply: Reply::from(a),
+        m,
     }
 }
 
@@ -48,16 +52,8 @@ pub fn connect(
 {
     let m = peers::inner::join(usable, free, who);
     let bytes = peers::one::encode_row(row);
-    if let Err(e) = act(list, store, &bytes, tables, who, m) {
-        return refused(e);
-    }
-    let Some(k) = m else {
-        return refused(CallError::NoSlot);
-    };
-    Joined {
-        reply: Reply::from(Ok(Answer::Done)),
-        m: Some(k),
-    }
+    let a = act(list, store, &bytes, tables, who, m, Err(CallError::NoSlot));
+    numbered(a, m)
 }
 
 // A peer leaves, for which the walk has found this.
@@ -78,11 +74,6 @@ pub fn disconnect(
     let keep = bonded != 0;
     let bytes = peers::one::encode_row(row);
     let m = peers::inner::part(&bytes, own, keep);
-    if let Err(e) = act(list, store, &bytes, tables, who, m) {
-        return refused(e);
-    }
-    Joined {
-        reply: Reply::from(Ok(Answer::Done)),
-        m,
-    }
+    let a = act(list, store, &bytes, tables, who, m, Ok(Answer::Done));
+    numbered(a, m)
 }

@@ -33,7 +33,7 @@ fn respond(
             }
             let n = (s.len - offset).min(out.len() - 1);
             let c = WriteCursor::new().byte(out, rsp);
-            let c = values::inner::append_span(c, out, v, s, offset, n);
+            let c = values::inner::append_span(c, out, v.store, v.table, s, offset, n);
             c.len
         }
     }
@@ -75,6 +75,6 @@ pub fn copy_value(v: Values, i: usize, out: &mut [u8]) -> Result<usize, AttError
 {
     let s = values::inner::locate_value(v.list, v.table, i)?;
     let n = s.len.min(out.len());
-    let c = values::inner::append_span(WriteCursor::new(), out, v, s, 0, n);
+    let c = values::inner::append_span(WriteCursor::new(), out, v.store, v.table, s, 0, n);
     Ok(c.len)
 }

@@ -78,7 +78,7 @@ fn put_value(
     ensures { Wrote out.old out.new c result (lead form (entry_of (get_or v.entry.list.now i [])) (entries_of (drop (i + 1) v.entry.list.now)) ++ take size (span_bytes v.entry.store.now v.entry.table.now s)) }
 {
     let c = put_lead(form, v.list, i, end, out, c);
-    values::inner::append_span(c, out, v, s, 0, size)
+    values::inner::append_span(c, out, v.store, v.table, s, 0, size)
 }
 
 // The row of the entry at place i, where the first value had `size` bytes; `end` is the end of its group where the form

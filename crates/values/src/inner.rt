@@ -8,7 +8,7 @@ ghost use Rattle.attribute.specs.Lookup.{place_of};
 ghost use Rattle.attribute_walk.specs.Walk.{Ascends};
 ghost use Rattle.values.specs.Locate.{own_span, value_span, read_span, span_at, side_of, span_bytes};
 
-use crate::{ValueSpan, Values};
+use crate::ValueSpan;
 use attribute::needs::may;
 use attribute::{Link, Wish};
 use table_view::{Key, inner as view};
@@ -69,11 +69,11 @@ pub fn locate(list: &[Record], table: &[u8], link: Link, handle: u16) -> Result<
 
 // The bytes of a value.
 #[tactic(auto, unfolding(crate::specs::Locate::span_bytes))]
-fn bytes_of<'a>(v: Values<'a>, s: ValueSpan) -> &'a [u8]
-    requires { s.start + s.len ≤ length (side_of v.store.now v.table.now s) }
-    ensures { (result.now ≡ span_bytes v.entry.store.now v.entry.table.now s) × (length result.now ≡ s.len) }
+fn bytes_of<'a>(store: &'a [u8], table: &'a [u8], s: ValueSpan) -> &'a [u8]
+    requires { s.start + s.len ≤ length (side_of store.now table.now s) }
+    ensures { (result.now ≡ span_bytes store.now table.now s) × (length result.now ≡ s.len) }
 {
-    let side = if s.client { v.table } else { v.store };
+    let side = if s.client { table } else { store };
     &side[s.start..s.start + s.len]
 }
 
@@ -81,15 +81,16 @@ fn bytes_of<'a>(v: Values<'a>, s: ValueSpan) -> &'a [u8]
 pub fn append_span(
     c: WriteCursor,
     out: &mut [u8],
-    v: Values,
+    store: &[u8],
+    table: &[u8],
     s: ValueSpan,
     from: usize,
     n: usize,
 ) -> WriteCursor
     requires n_in_bounds { (c.len + n ≤ length out.old) × (from + n ≤ s.len) }
-    requires len_in_bounds { s.start + s.len ≤ length (side_of v.store.now v.table.now s) }
-    ensures { Wrote out.old out.new c result (take n (drop from (span_bytes v.entry.store.now v.entry.table.now s))) }
+    requires len_in_bounds { s.start + s.len ≤ length (side_of store.now table.now s) }
+    ensures { Wrote out.old out.new c result (take n (drop from (span_bytes store.now table.now s))) }
 {
-    let bytes = bytes_of(v, s);
+    let bytes = bytes_of(store, table, s);
     c.append(out, &bytes[from..from + n])
 }

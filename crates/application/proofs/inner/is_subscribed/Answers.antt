@@ -10,16 +10,16 @@ returns-in_default c = no_subscription _ _ _ _ c.in_default.is
 
 pub offset_bounds-tables-k : goal.offset_bounds-tables-k
 offset_bounds-tables-k c =
-    omega (arith, slot_there _ _ c.requires _ c.in-Some.is, c.requires.tables.eight)
+    omega (arith, slot_there _ _ c.requires.0 _ c.in-Some.is, c.requires.0.tables.eight)
 
 pub bounds-tables-k : goal.bounds-tables-k
 bounds-tables-k c =
-    slot_there _ _ c.requires _ c.in-Some.is
+    slot_there _ _ c.requires.0 _ c.in-Some.is
 
 pub has_bit-requires : goal.has_bit-requires
 has_bit-requires c =
-    (slot_accepts _ _ c.requires _ c.in-Some.is, c.bit.ensures.1)
+    (slot_accepts _ _ c.requires.0 _ c.in-Some.is, c.requires.1)
 
 pub returns : goal.returns
 returns c =
-    (rw c.bit.ensures.0 at c.has_bit.ensures) ∙ in_slot _ _ _ _ _ c.in-Some.is
+    c.has_bit.ensures ∙ in_slot _ _ _ _ _ c.in-Some.is

@@ -7,4 +7,4 @@ pub returns-then-not-needs_slot : goal.returns-then-not-needs_slot
 returns-then-not-needs_slot c = no_slot _ _ (sym c.needs_slot.ensures ∙ c.if-not-needs_slot.true)
 
 pub returns : goal.returns
-returns c = c.first.ensures ∙ own_slot _ _ (sym c.needs_slot.ensures ∙ c.if-not-needs_slot.false)
+returns c = c.first.ensures.found ∙ own_slot _ _ (sym c.needs_slot.ensures ∙ c.if-not-needs_slot.false)

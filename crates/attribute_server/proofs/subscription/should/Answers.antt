@@ -12,16 +12,17 @@ returns-in_err-admit c =
     rw (p.1, p.2) (told_no _ _ _ (sym c.admit.ensures ∙ c.in_err-admit.was))
 
 pub is_subscribed-requires : goal.is_subscribed-requires
-is_subscribed-requires c =
-    rw c.first-slot.ensures
-    (slot_ready _ c.args.who (admitted _ _ _ (sym c.admit.ensures ∙ c.in_ok-admit.was)).right)
+is_subscribed-requires c = (
+  rw c.first-slot.ensures.found (slot_ready _ c.args.who (admitted _ _ _ (sym c.admit.ensures ∙ c.in_ok-admit.was)).right),
+  c.bit.ensures.1,
+)
 
 pub returns-then-is_subscribed : goal.returns-then-is_subscribed
 returns-then-is_subscribed c =
-    rw (sym (rw c.first-slot.ensures at c.is_subscribed.ensures) ∙ c.if-is_subscribed.true)
+    rw (sym (rw (c.first-slot.ensures.found, c.bit.ensures.0) at c.is_subscribed.ensures) ∙ c.if-is_subscribed.true)
     (told_yes _ _ (sym c.admit.ensures ∙ c.in_ok-admit.was))
 
 pub returns : goal.returns
 returns c =
-    rw (sym (rw c.first-slot.ensures at c.is_subscribed.ensures) ∙ c.if-is_subscribed.false)
+    rw (sym (rw (c.first-slot.ensures.found, c.bit.ensures.0) at c.is_subscribed.ensures) ∙ c.if-is_subscribed.false)
     (told_yes _ _ (sym c.admit.ensures ∙ c.in_ok-admit.was))

@@ -14,7 +14,7 @@ returns-in_err-admit c =
 
 pub get_client_att_table-requires : goal.get_client_att_table-requires
 get_client_att_table-requires c = (
-  rw c.first-slot.ensures (slot_ready _ c.args.who
+  rw c.first-slot.ensures.found (slot_ready _ c.args.who
       (admitted _ _ _ (sym c.admit.ensures ∙ c.in_ok-admit.was)).right),
   search rules,
 )
@@ -22,4 +22,4 @@ get_client_att_table-requires c = (
 pub returns : goal.returns
 returns c =
     yes_answer _ _ _ _ _ (sym c.admit.ensures ∙ c.in_ok-admit.was)
-    (rw c.first-slot.ensures at c.get_client_att_table.ensures)
+    (rw c.first-slot.ensures.found at c.get_client_att_table.ensures)

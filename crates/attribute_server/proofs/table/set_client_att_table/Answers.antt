@@ -17,12 +17,12 @@ returns-in_err-admit c =
 
 pub set_client_att_table-requires : goal.set_client_att_table-requires
 set_client_att_table-requires c =
-    rw c.first-slot.ensures
+    rw c.first-slot.ensures.found
     (slot_ready _ c.args.who (admitted _ _ _ (sym c.admit.ensures ∙ c.in_ok-admit.was)).right)
 
 pub returns : goal.returns
 returns c =
     let a = c.args in
     let d = sym c.admit.ensures ∙ c.in_ok-admit.was in
-    let e = rw c.first-slot.ensures at c.set_client_att_table.ensures in
+    let e = rw c.first-slot.ensures.found at c.set_client_att_table.ensures in
     (e.0 ∙ told_yes _ _ d, ap (λ (ts : List (List ℕ)). lent a.list.now a.store.now a.row.now ts) e.1 ∙ left_yes _ _ _ d)

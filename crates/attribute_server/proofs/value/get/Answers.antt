@@ -13,10 +13,10 @@ returns-in_err-admit c =
 
 pub get-requires : goal.get-requires
 get-requires c =
-    rw c.first-slot.ensures
+    rw c.first-slot.ensures.found
     (ready _ c.args.who (admitted _ _ _ (sym c.admit.ensures ∙ c.in_ok-admit.was)).right)
 
 pub returns : goal.returns
 returns c =
     yes_answer _ _ _ _ _ (sym c.admit.ensures ∙ c.in_ok-admit.was)
-    (rw c.first-slot.ensures at c.get.ensures)
+    (rw c.first-slot.ensures.found at c.get.ensures)

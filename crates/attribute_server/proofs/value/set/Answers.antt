@@ -16,10 +16,10 @@ returns-in_err-admit c =
 pub set-requires : goal.set-requires
 set-requires c =
     let d = sym c.admit.ensures ∙ c.in_ok-admit.was in
-    rw c.first-slot.ensures (ready _ c.args.who (admitted _ _ _ d).right)
+    rw c.first-slot.ensures.found (ready _ c.args.who (admitted _ _ _ d).right)
 
 pub returns : goal.returns
 returns c =
     let d = sym c.admit.ensures ∙ c.in_ok-admit.was in
-    let e = rw c.first-slot.ensures at c.set.ensures in
+    let e = rw c.first-slot.ensures.found at c.set.ensures in
     (e.0 ∙ told_yes _ _ d, e.1 (row_of c.args.row.now) ∙ left_yes _ _ _ d)

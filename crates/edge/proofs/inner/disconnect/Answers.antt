@@ -1,7 +1,7 @@
 -- `edge::inner::disconnect` meets its contract: the walk's find is the move, the row's bytes are the row. Assumes
 -- nothing.
-use Rattle.std.specs.Prelude.{Option, Ok}
-use mathlib.Core.Path.{◌≡◌, refl, sym, ap, ◌∙◌}
+use Rattle.std.specs.Prelude.{Option}
+use mathlib.Core.Path.{◌≡◌, sym, ap, ◌∙◌}
 use mathlib.Core.List.{List}
 use Prim.Native.Nat.{ℕ}
 use Rattle.peers.specs.declared.Identity.{Identity}
@@ -11,12 +11,9 @@ use Rattle.peers.specs.declared.Slot.{Slot}
 use Rattle.peers.proofs.Rows.{length_row}
 use Rattle.state.specs.State.{state}
 use Rattle.attribute_server.specs.Connection.{move_left}
-use Rattle.attribute_server.proofs.Moving.{part_is, found_inside, leaves_inside, put_left}
-use Rattle.numbers.proofs.Telling.{replied}
-use Rattle.model.specs.declared.Answer.TheVariants.{Done}
-use Rattle.admission.proofs.Admitting.{told_yes}
+use Rattle.attribute_server.proofs.Moving.{part_is, found_inside, leaves_inside, told_parted}
 use Rattle.numbers.specs.Request.{is_set}
-use Rattle.edge.proofs.Joining.{turned_away}
+use Rattle.edge.proofs.Joining.{joined}
 use Rattle.edge.proofs.inner.disconnect.Goals as goal
 use Rattle.edge.proofs.inner.disconnect.Goals.{After-part-m}
 use Rattle.peers.specs.declared.Seat.{Seat}
@@ -37,26 +34,16 @@ part-m-requires c =
     rw (length_row c.encode_row-bytes.result) at (found_inside (row_of c.encode_row-bytes.result) a.who _
     (own_in _ _ _ _ c.requires c.encode_row-bytes.ensures))
 
-pub act-requires : goal.act-requires
-act-requires c =
-    leaves_inside c.encode_row-bytes.result _ _ _ (in_bytes (goal.at.act-requires c).After-part-m)
-
-pub returns-in-Err : goal.returns-in-Err
-returns-in-Err c =
-    let a = c.args in
-    let s = state a.list.now a.store.now a.row a.tables.now in
-    let w = rw c.encode_row-bytes.ensures at c.act.ensures in
-    let m = rw c.encode_row-bytes.ensures at (in_bytes (goal.at.returns-in-Err c).After-part-m) in
-    let r = turned_away s a.who _ _ w.1 _ (sym c.in-Err.is ∙ w.0) c.refused.result _ c.refused.ensures in
-    (r.0, r.1 ∙ ap (move_left s a.who) m)
+pub act-a-requires : goal.act-a-requires
+act-a-requires c =
+    leaves_inside c.encode_row-bytes.result _ _ _ (in_bytes (goal.at.act-a-requires c).After-part-m)
 
 pub returns : goal.returns
 returns c =
     let a = c.args in
     let s = state a.list.now a.store.now a.row a.tables.now in
-    let w = rw c.encode_row-bytes.ensures at c.act.ensures in
-    let d = sym c.in_default.is ∙ w.0 in
-    let m = rw c.encode_row-bytes.ensures at (in_bytes (goal.at.returns c).After-part-m) in (
-      replied (Ok Done) _ _ (told_yes _ _ (sym d)) c.from.ensures,
-      put_left s a.who _ _ _ w.1 d refl ∙ ap (move_left s a.who) m,
-    )
+    let w = rw c.encode_row-bytes.ensures at c.act-a.ensures in
+    let m = rw c.encode_row-bytes.ensures at (in_bytes (goal.at.returns c).After-part-m) in
+    let t = told_parted s a.who c.part-m.result (is_set a.bonded) in
+    let j = joined s a.who _ _ w.1 _ _ _ w.0 t c.numbered.result c.numbered.ensures in
+    (j.0, j.1 ∙ ap (move_left s a.who) m)
