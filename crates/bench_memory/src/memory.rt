@@ -1,7 +1,6 @@
 // What the bench remembers from line to line.
 use arrayvec::ArrayVec;
 use state::{Lent, Prepared};
-use std::alloc::AllocError;
 use wire::sizes::{
     PreparedBytes, Record, SLOT_SIZE, SLOTS, SlotBytes, TABLE_SIZE, Table, VALUE_SIZE,
 };
@@ -41,12 +40,12 @@ impl Stock {
         }
     }
 
-    // Nothing is allocated for it: an `ArrayVec` holds its elements itself, so that the copy never fails.
-    pub fn copy(&self) -> Result<Stock, AllocError> {
-        Ok(Stock {
-            list: self.list.clone()?,
-            store: self.store.clone()?,
-        })
+    // Takes another's entries and bytes over, where it lies: they have room, since both hold as many.
+    pub fn take(&mut self, from: &Stock) {
+        self.list.clear();
+        self.list.try_extend_from_slice(&from.list).unwrap();
+        self.store.clear();
+        self.store.try_extend_from_slice(&from.store).unwrap();
     }
 }
 
@@ -65,6 +64,13 @@ impl Hub {
             tables: [[0; TABLE_SIZE]; SLOTS],
             waiting: idle(),
             clean: true,
+        }
+    }
+
+    // Leaves no prepared write on any link. The bytes of one stay, and are part of nothing.
+    pub fn forget(&mut self) {
+        for w in self.waiting.iter_mut() {
+            w.prepared = Prepared::default();
         }
     }
 

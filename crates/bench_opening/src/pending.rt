@@ -1,6 +1,7 @@
 // The pending list and store: what the next hub is opened from.
 use arrayvec::ArrayVec;
 use bench_memory::memory::Stock;
+use lines::words::Call;
 use lines::{number, parts, say, words};
 use std::io;
 use wire::sizes::{RECORD_SIZE, Record};
@@ -60,13 +61,14 @@ fn store<R: Print>(rt: &R, line: &[u8], pending: &mut Stock) -> io::Result<()> {
 }
 
 fn new<R: Print>(rt: &R, pending: &mut Stock) -> io::Result<()> {
-    *pending = Stock::new();
+    pending.list.clear();
+    pending.store.clear();
     say::line(rt, b"ok")
 }
 
 // Answers whether the line was one of these calls.
-pub fn answer<R: Print>(rt: &R, line: &[u8], pending: &mut Stock) -> io::Result<bool> {
-    match words::call(line) {
+pub fn answer<R: Print>(rt: &R, line: &[u8], call: Call, pending: &mut Stock) -> io::Result<bool> {
+    match call {
         (b"new", 0) => new(rt, pending)?,
         (b"attr", 8) => attr(rt, line, pending)?,
         (b"store", 1) => store(rt, line, pending)?,

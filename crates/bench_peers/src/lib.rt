@@ -3,7 +3,8 @@
 
 use bench_memory::memory::Hub;
 use bench_memory::{peer, reply};
-use lines::{number, say, words};
+use lines::words::Call;
+use lines::{number, say};
 use std::io;
 use wire::sizes::TABLE_SIZE;
 
@@ -79,8 +80,13 @@ fn set_table<R: Print>(rt: &R, line: &[u8], hub: Option<&mut Hub>) -> io::Result
 }
 
 // Answers whether the line was one of these calls. None of them changes the list, the store or a prepared write.
-pub fn answer<R: Print>(rt: &R, line: &[u8], hub: Option<&mut Hub>) -> io::Result<bool> {
-    match words::call(line) {
+pub fn answer<R: Print>(
+    rt: &R,
+    line: &[u8],
+    call: Call,
+    hub: Option<&mut Hub>,
+) -> io::Result<bool> {
+    match call {
         (b"connect", 1) => connect(rt, line, hub)?,
         (b"disconnect", 2) => disconnect(rt, line, hub)?,
         (b"gettab", 1) => get_table(rt, line, hub)?,

@@ -45,11 +45,11 @@ fn made(op: u8, first: u16, second: u16, uuid: u16) -> Option<RequestNumbers> {
     })
 }
 
-// The request, if the line has one, and its bytes, put at the start of d.
-pub fn read<'a>(line: &[u8], d: &'a mut [u8]) -> Option<(RequestNumbers, &'a [u8])> {
+// The request, if the line has one, and its bytes, put at the start of d. After its first word the line has n more.
+pub fn read<'a>(line: &[u8], n: usize, d: &'a mut [u8]) -> Option<(RequestNumbers, &'a [u8])> {
     let (op, numbers, payloads) = form(words::word(line, 5))?;
     let end = 6 + usize::from(numbers);
-    if words::count(line) != end + usize::from(payloads) {
+    if n != end - 1 + usize::from(payloads) {
         return None;
     }
     let first = number_at(line, numbers, 0)?;

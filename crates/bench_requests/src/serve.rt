@@ -4,7 +4,8 @@ ghost use Rattle.std.specs.Prelude.{◌<◌};
 use crate::question;
 use bench_memory::memory::{Hub, LINKS};
 use bench_memory::{peer, reply};
-use lines::{number, say, words};
+use lines::words::Call;
+use lines::{number, say};
 use numbers::RequestNumbers;
 use peers::Identity;
 use std::io;
@@ -62,10 +63,10 @@ fn serve<R: Print>(
     reply::tell_value(rt, s.reply, b"rsp ", &out)
 }
 
-// The request of a line, if it has one.
-fn request<R: Print>(rt: &R, line: &[u8], hub: Option<&mut Hub>) -> io::Result<()> {
+// The request of a line of so many words after its first, if it has one.
+fn request<R: Print>(rt: &R, line: &[u8], n: usize, hub: Option<&mut Hub>) -> io::Result<()> {
     let mut d = [0; 4100];
-    let (Some(a), Some((q, bytes))) = (read_asking(line), question::read(line, &mut d)) else {
+    let (Some(a), Some((q, bytes))) = (read_asking(line), question::read(line, n, &mut d)) else {
         return say::no_call(rt);
     };
     let Some(hub) = hub else {
@@ -83,9 +84,14 @@ fn tail<R: Print>(rt: &R, hub: Option<&mut Hub>) -> io::Result<()> {
 }
 
 // Answers whether the line was one of these calls.
-pub fn answer<R: Print>(rt: &R, line: &[u8], hub: Option<&mut Hub>) -> io::Result<bool> {
-    match words::call(line) {
-        (b"req", _) => request(rt, line, hub)?,
+pub fn answer<R: Print>(
+    rt: &R,
+    line: &[u8],
+    call: Call,
+    hub: Option<&mut Hub>,
+) -> io::Result<bool> {
+    match call {
+        (b"req", n) => request(rt, line, n, hub)?,
         (b"tail", 0) => tail(rt, hub)?,
         _ => return Ok(false),
     }

@@ -2,7 +2,8 @@
 #![tactic(auto)]
 
 use bench_memory::reply;
-use lines::{number, parts, say, words};
+use lines::words::Call;
+use lines::{number, parts, say};
 use std::io;
 use table_builder::PushError;
 use table_printer::TEXT_SIZE;
@@ -117,10 +118,11 @@ fn print<R: Print>(rt: &R, line: &[u8]) -> io::Result<()> {
 pub fn answer<R: Print>(
     rt: &R,
     line: &[u8],
+    call: Call,
     builder: &mut Table,
     table: &mut Table,
 ) -> io::Result<bool> {
-    match words::call(line) {
+    match call {
         (b"bnew", 0) => new(rt, builder)?,
         (b"bload", 1) => load(rt, line, builder)?,
         (b"bpush", 3) => push(rt, line, builder)?,

@@ -6,7 +6,8 @@ use application::Bell;
 use attribute::Wish;
 use bench_memory::memory::Hub;
 use bench_memory::{peer, reply};
-use lines::{number, say, words};
+use lines::words::Call;
+use lines::{number, say};
 use std::io;
 
 // Copies a value out. No value is over 512 bytes, so that 1,024 stand for any more.
@@ -84,8 +85,13 @@ fn should<R: Print>(rt: &R, line: &[u8], hub: Option<&mut Hub>, bell: Bell) -> i
 }
 
 // Answers whether the line was one of these calls. None of them changes a slot or a prepared write.
-pub fn answer<R: Print>(rt: &R, line: &[u8], hub: Option<&mut Hub>) -> io::Result<bool> {
-    match words::call(line) {
+pub fn answer<R: Print>(
+    rt: &R,
+    line: &[u8],
+    call: Call,
+    hub: Option<&mut Hub>,
+) -> io::Result<bool> {
+    match call {
         (b"get", 3) => get(rt, line, hub)?,
         (b"set", 3) => set(rt, line, hub)?,
         (b"canread", 3) => can(rt, line, hub, Wish::Read)?,

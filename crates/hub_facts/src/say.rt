@@ -2,7 +2,6 @@
 use lines::{parts, say};
 use model::{Answer, CallError};
 use std::io;
-use wire::att::AttError;
 
 pub fn ok<R: Print>(rt: &R) -> io::Result<()> {
     say::say(rt, b"ok")
@@ -12,14 +11,14 @@ pub fn none<R: Print>(rt: &R) -> io::Result<()> {
     say::say(rt, b"none")
 }
 
-pub fn refused<R: Print>(rt: &R, n: u8) -> io::Result<()> {
+pub fn refused<R: Print>(rt: &R, n: u64) -> io::Result<()> {
     say::say(rt, b"refused ")?;
     rt.print(n)
 }
 
-pub fn att<R: Print>(rt: &R, e: AttError) -> io::Result<()> {
+pub fn att<R: Print>(rt: &R, code: u8) -> io::Result<()> {
     say::say(rt, b"att ")?;
-    say::hex(rt, &[u8::from(e)])
+    say::hex(rt, &[code])
 }
 
 // An answer of the server: a value or a response is what stands in the buffer.
@@ -35,6 +34,6 @@ pub fn say_answer<R: Print>(rt: &R, out: &[u8], a: Result<Answer, CallError>) ->
         Err(CallError::NoSlot) => refused(rt, 7),
         Err(CallError::NoHandle) => refused(rt, 8),
         Err(CallError::WrongLength) => refused(rt, 9),
-        Err(CallError::Att(e)) => att(rt, e),
+        Err(CallError::Att(e)) => att(rt, u8::from(e)),
     }
 }

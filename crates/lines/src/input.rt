@@ -5,7 +5,7 @@ use std::io;
 use std::io::Read;
 
 // The chunk of the input that was read last, how much of it has been handed out, and where what was read ends.
-#[derive(Drop)]
+#[derive(Clone, Copy)]
 pub struct Feed {
     chunk: [u8; 65536],
     at: usize,

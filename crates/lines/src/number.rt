@@ -1,8 +1,12 @@
 // Numbers and bytes in hex, as words of a line. Capitals or not, both are read.
+ghost use Rattle.std.specs.Prelude.{◌<◌, IfSome};
+
 use crate::words;
 
 // A digit's value, if it is one.
-fn digit(c: u8) -> Option<u32> {
+fn digit(c: u8) -> Option<u32>
+    ensures { IfSome result (λ d. d < 16) }
+{
     char::from(c).to_digit(16)
 }
 

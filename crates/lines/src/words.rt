@@ -10,7 +10,10 @@ pub fn word(line: &[u8], k: usize) -> &[u8] {
     line.split(|b| *b == b' ').nth(k).unwrap_or(b"")
 }
 
-// The call that a line is: its name, and how many words come after it.
-pub fn call(line: &[u8]) -> (&[u8], usize) {
-    (word(line, 0), line.split(|b| *b == b' ').skip(1).count())
+// A call: its name, and how many words come after it.
+pub type Call<'a> = (&'a [u8], usize);
+
+// The call that a line is. It counts the whole line's words, so a line is asked once.
+pub fn call(line: &[u8]) -> Call<'_> {
+    (word(line, 0), count(line).saturating_sub(1))
 }

@@ -29,17 +29,18 @@ impl Bench {
 
 // Whether the line was a call: on the bench's own builder and table, on the pending list and store, or on a hub.
 fn is_answered<R: Print>(rt: &R, line: &[u8], b: &mut Bench) -> io::Result<bool> {
-    if let (b"open", 0) = words::call(line) {
+    let call = words::call(line);
+    if let (b"open", 0) = call {
         opening::open(rt, &b.pending, &mut b.hub)?;
         return Ok(true);
     }
     Ok(
-        bench_tables::answer(rt, line, &mut b.builder, &mut b.table)?
-            || pending::answer(rt, line, &mut b.pending)?
-            || bench_values::answer(rt, line, b.hub.as_mut())?
-            || bench_peers::answer(rt, line, b.hub.as_mut())?
-            || bench_pokes::answer(rt, line, b.hub.as_mut())?
-            || bench_requests::serve::answer(rt, line, b.hub.as_mut())?,
+        bench_tables::answer(rt, line, call, &mut b.builder, &mut b.table)?
+            || pending::answer(rt, line, call, &mut b.pending)?
+            || bench_values::answer(rt, line, call, b.hub.as_mut())?
+            || bench_peers::answer(rt, line, call, b.hub.as_mut())?
+            || bench_pokes::answer(rt, line, call, b.hub.as_mut())?
+            || bench_requests::serve::answer(rt, line, call, b.hub.as_mut())?,
     )
 }
 

@@ -8,7 +8,7 @@ pub fn say_written<R: Print>(rt: &R, r: Result<(), WriteError>) -> io::Result<()
     match r {
         Ok(()) => ok(rt),
         Err(WriteError::NotATable) => refused(rt, 4),
-        Err(WriteError::Att(e)) => att(rt, e),
+        Err(WriteError::Att(e)) => att(rt, u8::from(e)),
     }
 }
 
