@@ -39,14 +39,6 @@ impl Stock {
             store: ArrayVec::new(),
         }
     }
-
-    // Takes another's entries and bytes over, where it lies: they have room, since both hold as many.
-    pub fn take(&mut self, from: &Stock) {
-        self.list.clear();
-        self.list.try_extend_from_slice(&from.list).unwrap();
-        self.store.clear();
-        self.store.try_extend_from_slice(&from.store).unwrap();
-    }
 }
 
 // No prepared write on any link.
@@ -64,13 +56,6 @@ impl Hub {
             tables: [[0; TABLE_SIZE]; SLOTS],
             waiting: idle(),
             clean: true,
-        }
-    }
-
-    // Leaves no prepared write on any link. The bytes of one stay, and are part of nothing.
-    pub fn forget(&mut self) {
-        for w in self.waiting.iter_mut() {
-            w.prepared = Prepared::default();
         }
     }
 
