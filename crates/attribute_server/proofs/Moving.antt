@@ -24,7 +24,7 @@ use Rattle.peers.proofs.Moves.{InRow, join_in_row, leave_in_row}
 use Rattle.peers.proofs.Rows.{length_row}
 use Rattle.state.specs.State.{State, state, after_move}
 use Rattle.admission.specs.Admission.{Admission, admission, told_if}
-use Rattle.admission.proofs.Admitting.{left_no, left_yes}
+use Rattle.admission.proofs.Admitting.{told_yes, left_no, left_yes}
 use Rattle.attribute_server.specs.Connection.{if_moved, moved_by, connect_told, disconnect_told, move_left}
 use Rattle.peers.specs.declared.Seat.{Seat}
 
@@ -71,6 +71,12 @@ module _ (s : State) (who : Identity) (m : Option Move) where
 
   pub told_parted : (bonded : Bool) → told_if (admission s who) (if_moved m done done) ≡ disconnect_told s who bonded
   told_parted bonded = ap (told_if (admission s who)) (done_anyway m)
+
+-- what a peer that is let in is told: by the move x that the walks found
+pub told_moved : (s : State) (who : Identity) (m x : Option Move) → Ok tt ≡ admission s who → m ≡ connecting s.row who → m ≡ x
+    → if_moved x done (refused 7) ≡ connect_told s who
+told_moved s who m x d e f =
+    ap (λ (m : Option Move). if_moved m done (refused 7)) (sym f) ∙ told_yes _ _ (sym d) ∙ told_joined s who m e
 
 -- of a peer that is let in, the move that an answer leaves to be put is the move
 put_by_answer : (row : List Slot) (r : Result Answer CallError) (m : Option Move) (stayed : Told) → told_answer [] r ≡ if_moved m done stayed

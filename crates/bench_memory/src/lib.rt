@@ -5,3 +5,5 @@
 pub mod memory;
 pub mod peer;
 pub mod reply;
+#[cfg(test)]
+mod tests;

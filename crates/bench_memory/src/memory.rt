@@ -1,6 +1,9 @@
 // What the bench remembers from line to line.
+ghost use Rattle.std.specs.Prelude.{◌≡◌, IsOkAnd};
+
 use arrayvec::ArrayVec;
 use state::{Lent, Prepared};
+use std::alloc::AllocError;
 use wire::sizes::{
     PreparedBytes, Record, SLOT_SIZE, SLOTS, SlotBytes, TABLE_SIZE, Table, VALUE_SIZE,
 };
@@ -38,6 +41,17 @@ impl Stock {
             list: ArrayVec::new(),
             store: ArrayVec::new(),
         }
+    }
+
+    // The same entries and bytes. Nothing is allocated for them: an `ArrayVec` holds its elements itself, so that the
+    // copy never fails.
+    pub fn copy(&self) -> Result<Stock, AllocError>
+        ensures { IsOkAnd result (λ s. (s.list.items ≡ self.now.list.items) × (s.store.items ≡ self.now.store.items)) }
+    {
+        Ok(Stock {
+            list: self.list.clone()?,
+            store: self.store.clone()?,
+        })
     }
 }
 
