@@ -1,5 +1,5 @@
 // What the bench remembers from line to line.
-ghost use Rattle.std.specs.Prelude.{◌≡◌, IsOkAnd};
+ghost use Rattle.std.specs.Prelude.{◌≡◌, Ok};
 
 use arrayvec::ArrayVec;
 use state::{Lent, Prepared};
@@ -46,7 +46,7 @@ impl Stock {
     // The same entries and bytes. Nothing is allocated for them: an `ArrayVec` holds its elements itself, so that the
     // copy never fails.
     pub fn copy(&self) -> Result<Stock, AllocError>
-        ensures { IsOkAnd result (λ s. (s.list.items ≡ self.now.list.items) × (s.store.items ≡ self.now.store.items)) }
+        ensures { result ≡ Ok self.now }
     {
         Ok(Stock {
             list: self.list.clone()?,
